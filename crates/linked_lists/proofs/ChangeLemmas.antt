@@ -1,15 +1,18 @@
 -- The effect on lists of a new list, a new value and a removal.
 use Rattle.std.proofs.Common.{◌≡◌, ◌≢◌, ℕ, inl, inr, ⊎_elim, List, [], ◌∷◌, ◌++◌, map, Option, None, Some, refl, sym, ap, ◌∙◌, subst}
-use Rattle.std.specs.Prelude.{is_some, true, IfNone, OnErr, OnSome, Result, Ok, Err, IfSome}
+use Rattle.std.specs.Prelude.{Bool, is_some, true, IfNone, OnErr, OnSome, Result, Ok, Err, IfSome}
 use Rattle.std.specs.Borrow.{MutBor}
 use Rattle.std.specs.Option.{option_copied_mut}
 use Rattle.std.proofs.lemmas.Bool.{cases_eq}
+use Rattle.arena_core.specs.Invalidation.{invalidation_result, is_overflow_result, value_within}
 use Rattle.arena_core.specs.PointerKinds.{PointerKind}
+use Rattle.arena_core.specs.declared.invalidation.InvalidationResult.{InvalidationResult}
+use Rattle.arena_core.specs.declared.invalidation.InvalidationResult.TheVariants as outcome
 use Rattle.arena_core.specs.declared.errors.ReallocationError.{ReallocationError}
 use Rattle.chain_laws.specs.Chains.{LinkMap, cyclic, IsChain, IsMember}
 use Rattle.chain_laws.proofs.InterlinkLemmas.Inverses.{one_some}
 use Rattle.arena_traits.specs.Entries.{ArenaView, ArenaState, view_with_value}
-use Rattle.arena_traits.specs.CallOutcomes.{ReplacesValue}
+use Rattle.arena_traits.specs.CallOutcomes.{ReplacesValue, ReportsOverflow}
 use Rattle.arena_traits.specs.Growth.{IsGrowthResult, RefusesOneMore, GrowsForOneMore}
 use Rattle.arena_traits.proofs.EntryChangeLemmas.{values_elsewhere}
 use Rattle.chain_traits.proofs.OutcomeLemmas.{growth_to}
@@ -104,10 +107,14 @@ module _ {A Gen T : Type 0} {view : A → ArenaView Gen (Entry T)} {entry : A �
       size = is.size;
     }
 
-    pub removes_item : (r : Option (Entry T)) → IsItem (entry old) (pointers.key p) → rings.RemovesItem state interlinks cyclic pointers old p r new → RemovesListItem state interlinks pointers old p (value_in r) new
-    removes_item None item is = absurd (is.0 (item_valid (entry old) (pointers.key p) item.value item.stored))
-    removes_item (Some entries.Head) item is = absurd (head_or_item (entry old) (pointers.key p) (pointers.key p) item.value is.removed.0 item.stored refl)
-    removes_item (Some (entries.Item t)) item is = item_removed t is
+    pub removes_item : (r : InvalidationResult (Entry T)) → IsItem (entry old) (pointers.key p) → rings.RemovesItem state interlinks cyclic pointers old p (value_within r) new
+        → OnSome (value_within r) (IfSome (view old).counter (λ g. pointers.wraps g ≡ is_overflow_result r))
+        → RemovesListItem state interlinks pointers old p (invalidation_result (is_overflow_result r) (value_in (value_within r))) new
+    removes_item outcome.InvalidPtr item is overflow = absurd (is.0 (item_valid (entry old) (pointers.key p) item.value item.stored))
+    removes_item (outcome.Success entries.Head) item is overflow = absurd (head_or_item (entry old) (pointers.key p) (pointers.key p) item.value is.removed.0 item.stored refl)
+    removes_item (outcome.Success (entries.Item t)) item is overflow = (overflow, item_removed t is)
+    removes_item (outcome.GenerationOverflow entries.Head) item is overflow = absurd (head_or_item (entry old) (pointers.key p) (pointers.key p) item.value is.removed.0 item.stored refl)
+    removes_item (outcome.GenerationOverflow (entries.Item t)) item is overflow = (overflow, item_removed t is)
 
     pub each_removed : EachInList state interlinks old → (r : Option (Entry T)) → IsItem (entry old) (pointers.key p) → rings.RemovesItem state interlinks cyclic pointers old p r new → EachInList state interlinks new
     each_removed each None item is = subst (EachInList state interlinks) (sym is.1) each
@@ -143,6 +150,13 @@ module _ {A Gen T : Type 0} {view : A → ArenaView Gen (Entry T)} {entry : A �
     item.stored,
     written t (subst (λ (u : Entry T). view new ≡ view_with_value (view old) p.0 u) is_item is) same,
   )
+
+-- Whether the counter wrapped is reported.
+pub overflow_reported : {X Gen : Type 0} (wraps : Gen → Bool) (counter : Option Gen) (invalid : Type 0) (done : X → Type 0) (r : InvalidationResult X) → ReportsOverflow wraps counter invalid done r
+    → OnSome (value_within r) (IfSome counter (λ g. wraps g ≡ is_overflow_result r))
+overflow_reported wraps counter invalid done outcome.InvalidPtr is = tt
+overflow_reported wraps counter invalid done (outcome.Success x) is = is.0
+overflow_reported wraps counter invalid done (outcome.GenerationOverflow x) is = is.0
 
 -- A reference to a value is read.
 pub read_through : {T : Type 0} (X : T → Type 0) (o : Option (MutBor T)) (t : T) → option_copied_mut o ≡ Some t → X t → (is_some o ≡ true) × IfSome o (λ b. X b.now)

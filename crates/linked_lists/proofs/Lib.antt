@@ -9,3 +9,6 @@ mod HandleLemmas
 mod SplitLemmas
 mod WalkedLemmas
 mod ListRemovalLemmas
+mod RangeLemmas
+mod RangeMoveLemmas
+mod RangeTestLemmas

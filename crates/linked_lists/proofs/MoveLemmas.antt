@@ -244,7 +244,7 @@ module _ {Gen T : Type 0} where
       }
 
   -- The last link of a list whose last item is `z`.
-  ring_last : (h : ℕ × Gen) (xs ys : List (Item Gen T)) (z : Item Gen T) → last_key (ring_of h (xs ++ (ys ++ z ∷ []))) ≡ Some z.0
+  pub ring_last : (h : ℕ × Gen) (xs ys : List (Item Gen T)) (z : Item Gen T) → last_key (ring_of h (xs ++ (ys ++ z ∷ []))) ≡ Some z.0
   ring_last h xs ys z = ap (λ (l : List (Item Gen T)). last_key (ring_of h l)) (sym (append_assoc xs ys (z ∷ []))) ∙ (ap last_key (ring_parts h (xs ++ ys) (z ∷ [])) ∙ last_is (ring_of h (xs ++ ys)) (as_item z))
 
   -- The links after a move are those before it, and `e`.

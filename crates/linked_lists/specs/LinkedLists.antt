@@ -1,21 +1,22 @@
 -- Linked lists in an arena of links: what is a list, and what the calls of `LinkedLists` read and
 -- change.
-use Rattle.std.specs.Prelude.{◌≡◌, ◌≢◌, ◌↔◌, ℕ, ◌+◌, List, [], ◌∷◌, ◌++◌, map, length, IsSome, IfSome, OnErr, Option, None, Some, Result, Ok, Err}
+use Rattle.std.specs.Prelude.{◌≡◌, ◌≢◌, ◌↔◌, ℕ, zero, suc, ◌+◌, Bool, false, ◌||◌, List, [], ◌∷◌, ◌++◌, map, length, IsSome, IfSome, OnErr, Option, None, Some, Result, Ok, Err}
 use Rattle.std.specs.Option.{option_map}
 use Rattle.std.specs.Borrow.{Bor}
 use Rattle.arena_core.specs.PointerKinds.{PointerKind}
 use Rattle.arena_core.specs.declared.errors.ChainInsertionError.{ChainInsertionError}
 use Rattle.arena_core.specs.declared.errors.ReallocationError.{ReallocationError}
+use Rattle.arena_core.specs.declared.invalidation.InvalidationResult.{InvalidationResult}
 use Rattle.chain_laws.specs.Chains.{LinkMap, IsMember}
 use Rattle.arena_traits.specs.Entries.{ArenaView, ArenaState, count, first_key, last_key, view_with_value, view_after_removal}
-use Rattle.arena_traits.specs.CallOutcomes.{IsEntryInserted, IsEntryRemoved}
+use Rattle.arena_traits.specs.CallOutcomes.{IsEntryInserted, IsEntryRemoved, ReportsOverflow}
 use Rattle.arena_traits.specs.Growth.{IsGrowthResult, RefusesOneMore, GrowsForOneMore}
 use Rattle.chain_links.specs.Insertions.{IsInsertionResult}
 use Rattle.chain_lists.specs.Lists.{Item, indexes, IsRing}
 use Rattle.linked_lists.specs.declared.entry.Entry.{Entry}
 use Rattle.linked_lists.specs.declared.entry.Entry.TheVariants as entries
 
--- The handle is none of these.
+-- The pointer is none of these.
 abbrev pub IsNoneOf : {Gen : Type 0} → List (ℕ × Gen) → ℕ × Gen → Type 0
 IsNoneOf [] k = Unit {0}
 IsNoneOf (h ∷ hs) k = (k ≢ h) × IsNoneOf hs k
@@ -24,6 +25,15 @@ IsNoneOf (h ∷ hs) k = (k ≢ h) × IsNoneOf hs k
 abbrev pub view_after_removals : {Gen V : Type 0} → (Gen → Gen) → ArenaView Gen V → List ℕ → ArenaView Gen V
 view_after_removals following s [] = s
 view_after_removals following s (i ∷ rest) = view_after_removals following (view_after_removal following s i) rest
+
+-- The counter after so many removals, and whether it wraps within so many.
+abbrev pub counter_after : {Gen : Type 0} → (Gen → Gen) → ℕ → Gen → Gen
+counter_after following zero g = g
+counter_after following (suc n) g = following (counter_after following n g)
+
+abbrev pub wraps_within : {Gen : Type 0} → (Gen → Bool) → (Gen → Gen) → ℕ → Gen → Bool
+wraps_within wraps following zero g = false
+wraps_within wraps following (suc n) g = wraps_within wraps following n g || wraps (counter_after following n g)
 
 module _ {Gen T : Type 0} where
   -- The entry of an item, and the ring of a list: its head, then its items.
@@ -36,6 +46,10 @@ module _ {Gen T : Type 0} where
   -- The pointers of items.
   abbrev pub pointers_of : List (Item Gen T) → List (ℕ × Gen)
   pointers_of items = map (λ e. e.0) items
+
+  -- A range of items, from `first` to `last`.
+  abbrev pub HasEnds : List (Item Gen T) → (first last : ℕ × Gen) → Type 0
+  HasEnds range first last = (first_key range ≡ Some first) × (last_key range ≡ Some last)
 
   -- `h` is the handle of a list.
   abbrev pub IsHandle : (ℕ → Option (Gen × Entry T)) → ℕ × Gen → Type 0
@@ -88,6 +102,17 @@ module _ {A Gen T : Type 0} {view : A → ArenaView Gen (Entry T)} {entry : A �
       pub items : (p : ℕ × Gen) (t : T) → HasItem (entry arena) p t → HasPlace p t
       pub once : (h k : ℕ × Gen) (xs ys : List (Item Gen T)) (i : ℕ) → IsList h xs → IsList k ys
           → IsMember (indexes (ring_of h xs)) i → IsMember (indexes (ring_of k ys)) i → (h ≡ k) × (xs ≡ ys)
+
+    -- `first` to `last` are items of one list, each directly after the one before it, and `q` is
+    -- none of them.
+    pub record IsRangeWithout (first last q : ℕ × Gen) : Type 0 where
+      pub handle : ℕ × Gen
+      pub before : List (Item Gen T)
+      pub range : List (Item Gen T)
+      pub after : List (Item Gen T)
+      pub list : IsList handle (before ++ range ++ after)
+      pub ends : HasEnds range first last
+      pub apart : IsNoneOf (pointers_of range) q
 
   module _ (old new : A) where
     -- Every list whose handle is none of these keeps its items.
@@ -162,6 +187,15 @@ module _ {A Gen T : Type 0} {view : A → ArenaView Gen (Entry T)} {entry : A �
           → place k (p, t) others items → IsList new h (before ++ after) × IsList new k items × KeepsOthers (h ∷ k ∷ [])
       pub entries : KeepsEntries
 
+    -- The range from `first` to `last` leaves its list. Then it is inserted where `place` states: the
+    -- handle, the range, the items of that list without it, and its items with it.
+    pub record IsRangeMoved (first last : ℕ × Gen) (place : ℕ × Gen → List (Item Gen T) → List (Item Gen T) → List (Item Gen T) → Type 0) : Type 0 where
+      pub within : (h : ℕ × Gen) (before range after items : List (Item Gen T)) → HasEnds range first last → IsList old h (before ++ range ++ after)
+          → place h range (before ++ after) items → Becomes h items
+      pub between : (h k : ℕ × Gen) (before range after others items : List (Item Gen T)) → h ≢ k → HasEnds range first last → IsList old h (before ++ range ++ after)
+          → IsList old k others → place k range others items → IsList new h (before ++ after) × IsList new k items × KeepsOthers (h ∷ k ∷ [])
+      pub entries : KeepsEntries
+
     -- The items of the list of `k` are moved behind those of the list of `h`.
     pub record IsAppended (h k : ℕ × Gen) : Type 0 where
       pub lists : (xs ys : List (Item Gen T)) → IsList old h xs → IsList old k ys → IsList new h (xs ++ ys) × IsList new k []
@@ -184,6 +218,16 @@ module _ {Gen T : Type 0} where
 
   abbrev pub DirectlyAfter : ℕ × Gen → ℕ × Gen → Item Gen T → List (Item Gen T) → List (Item Gen T) → Type 0
   DirectlyAfter q k e others items = (s : T) × (x : List (Item Gen T)) × (y : List (Item Gen T)) × (others ≡ x ++ (q, s) ∷ y) × (items ≡ x ++ (q, s) ∷ e ∷ y)
+
+  -- Where a range is moved: to the start or the end of the list of `h`, or directly after `q`.
+  abbrev pub RangeAtStart : ℕ × Gen → ℕ × Gen → List (Item Gen T) → List (Item Gen T) → List (Item Gen T) → Type 0
+  RangeAtStart h k range others items = (k ≡ h) × (items ≡ range ++ others)
+
+  abbrev pub RangeAtEnd : ℕ × Gen → ℕ × Gen → List (Item Gen T) → List (Item Gen T) → List (Item Gen T) → Type 0
+  RangeAtEnd h k range others items = (k ≡ h) × (items ≡ others ++ range)
+
+  abbrev pub RangeAfter : ℕ × Gen → ℕ × Gen → List (Item Gen T) → List (Item Gen T) → List (Item Gen T) → Type 0
+  RangeAfter q k range others items = (s : T) × (x : List (Item Gen T)) × (y : List (Item Gen T)) × (others ≡ x ++ (q, s) ∷ y) × (items ≡ x ++ (q, s) ∷ range ++ y)
 
 module _ {A Gen T : Type 0} {view : A → ArenaView Gen (Entry T)} {entry : A → ℕ → Option (Gen × Entry T)} (state : (a : A) → ArenaState (view a) (entry a)) (interlinks : A → LinkMap) where
   module _ {P : Type 0} (key : P → ℕ × Gen) where
@@ -263,10 +307,11 @@ module _ {A Gen T : Type 0} {view : A → ArenaView Gen (Entry T)} {entry : A �
   ReplacesItem old p t None new = (IsItem (entry old) p → ⊥) × (new ≡ old)
   ReplacesItem old p t (Some former) new = HasItem (entry old) p former × ValueBecomes state interlinks old new p t
 
-  -- `remove`: the item of `p` is removed and its value returned, if `p` is an item.
-  abbrev pub RemovesListItem : {P I W : Type 0} → PointerKind P I Gen W → A → P → Option T → A → Type 0
-  RemovesListItem pointers old p None new = (IsItem (entry old) (pointers.key p) → ⊥) × (new ≡ old)
-  RemovesListItem pointers old p (Some t) new = LeavesList state interlinks old new pointers (pointers.key p) t
+  -- `remove`: the item of `p` is removed and its value returned, if `p` is an item, and whether the
+  -- counter wrapped is reported.
+  abbrev pub RemovesListItem : {P I W : Type 0} → PointerKind P I Gen W → A → P → InvalidationResult T → A → Type 0
+  RemovesListItem pointers old p result new =
+      ReportsOverflow pointers.wraps (view old).counter ((IsItem (entry old) (pointers.key p) → ⊥) × (new ≡ old)) (λ t. LeavesList state interlinks old new pointers (pointers.key p) t) result
 
   -- `move_to_front` and `move_to_back`: the item of `p` is moved to the start or the end of the list
   -- of `h`.
@@ -283,6 +328,20 @@ module _ {A Gen T : Type 0} {view : A → ArenaView Gen (Entry T)} {entry : A �
   MovesAfterItem old p q None new = (IsItem (entry old) p × IsItem (entry old) q × (p ≢ q) → ⊥) × (new ≡ old)
   MovesAfterItem old p q (Some done) new = IsItem (entry old) p × IsItem (entry old) q × (p ≢ q) × IsItemMoved state interlinks old new p (DirectlyAfter q)
 
+  -- `move_range_to_front`, `move_range_to_back` and `move_range_after`: a range is moved to the start
+  -- or the end of the list of `h`, or directly behind the item of `q`.
+  abbrev pub MovesRangeToFront : A → (first last h : ℕ × Gen) → Option Unit → A → Type 0
+  MovesRangeToFront old first last h None new = (IsHandle (entry old) h → ⊥) × (new ≡ old)
+  MovesRangeToFront old first last h (Some done) new = IsHandle (entry old) h × IsRangeMoved state interlinks old new first last (RangeAtStart h)
+
+  abbrev pub MovesRangeToBack : A → (first last h : ℕ × Gen) → Option Unit → A → Type 0
+  MovesRangeToBack old first last h None new = (IsHandle (entry old) h → ⊥) × (new ≡ old)
+  MovesRangeToBack old first last h (Some done) new = IsHandle (entry old) h × IsRangeMoved state interlinks old new first last (RangeAtEnd h)
+
+  abbrev pub MovesRangeAfter : A → (first last q : ℕ × Gen) → Option Unit → A → Type 0
+  MovesRangeAfter old first last q None new = (IsItem (entry old) q → ⊥) × (new ≡ old)
+  MovesRangeAfter old first last q (Some done) new = IsItem (entry old) q × IsRangeMoved state interlinks old new first last (RangeAfter q)
+
   -- `append`: the items of the list of `k` are moved behind those of the list of `h`, if these are
   -- two lists.
   abbrev pub AppendsList : A → (h k : ℕ × Gen) → Option Unit → A → Type 0
@@ -290,7 +349,7 @@ module _ {A Gen T : Type 0} {view : A → ArenaView Gen (Entry T)} {entry : A �
   AppendsList old h k (Some done) new = IsHandle (entry old) h × IsHandle (entry old) k × (h ≢ k) × IsAppended state interlinks old new h k
 
   -- `remove_list`: the list of `h` is removed and the number of its items returned, if `h` is a
-  -- handle.
-  abbrev pub RemovesList : (Gen → Gen) → A → ℕ × Gen → Option ℕ → A → Type 0
-  RemovesList following old h None new = (IsHandle (entry old) h → ⊥) × (new ≡ old)
-  RemovesList following old h (Some n) new = (items : List (Item Gen T)) × IsListRemoved state interlinks old new following h items × (n ≡ length items)
+  -- handle, and whether the counter wrapped is reported.
+  abbrev pub RemovesList : (Gen → Bool) → (Gen → Gen) → A → ℕ × Gen → InvalidationResult ℕ → A → Type 0
+  RemovesList wraps following old h result new = (items : List (Item Gen T)) × ReportsOverflow (wraps_within wraps following (suc (length items))) (view old).counter ((IsHandle (entry old) h → ⊥) × (new ≡ old))
+      (λ n. IsListRemoved state interlinks old new following h items × (n ≡ length items)) result

@@ -1,5 +1,5 @@
 -- What the calls on rings below `LinkedLists` read and change.
-use Rattle.std.specs.Prelude.{◌≡◌, ℕ, List, [], ◌∷◌, ◌++◌, length, Option, None, Some}
+use Rattle.std.specs.Prelude.{◌≡◌, ◌↔◌, ℕ, Bool, IsTrue, IfSome, List, [], ◌∷◌, ◌++◌, length, Option, None, Some}
 use Rattle.std.specs.Option.{option_map}
 use Rattle.chain_laws.specs.Chains.{LinkMap, IsMember}
 use Rattle.chain_laws.specs.Walks.{IsWalk}
@@ -8,7 +8,7 @@ use Rattle.arena_traits.specs.Entries.{ArenaView, ArenaState, first_key, last_ke
 use Rattle.chain_lists.specs.Lists.{Item, indexes, IsRing}
 use Rattle.linked_lists.specs.declared.entry.Entry.{Entry}
 use Rattle.linked_lists.specs.declared.entry.Entry.TheVariants as entries
-use Rattle.linked_lists.specs.LinkedLists.{IsHandle, IsItem, IsList, KeepsOthers, AreEntriesRemoved, ring_of}
+use Rattle.linked_lists.specs.LinkedLists.{IsHandle, IsItem, IsList, AllInLists, IsRangeWithout, KeepsOthers, AreEntriesRemoved, ring_of, wraps_within}
 
 -- The value of an item.
 abbrev pub value_in : {T : Type 0} → Option (Entry T) → Option T
@@ -46,7 +46,17 @@ module _ {A Gen T : Type 0} {view : A → ArenaView Gen (Entry T)} {entry : A �
   abbrev pub EndsListOf : A → (p l : ℕ × Gen) → Type 0
   EndsListOf arena p l = (h : ℕ × Gen) (t : T) (before after : List (Item Gen T)) → IsList state interlinks arena h (before ++ (p, t) ∷ after) → Some l ≡ last_key (ring_of h (before ++ (p, t) ∷ after))
 
-  -- The items of the list of `h` are removed, from the first one on, and their number is returned.
-  abbrev pub EmptiesList : (Gen → Gen) → A → ℕ × Gen → ℕ → A → Type 0
-  EmptiesList following old h n new = (items : List (Item Gen T)) × IsList state interlinks old h items × IsList state interlinks new h []
-      × AreEntriesRemoved state interlinks old new following (indexes items) × KeepsOthers state interlinks old new (h ∷ []) × (n ≡ length items)
+  -- The items of the list of `h` are removed, from the first one on. Their number is returned, and
+  -- whether the counter wrapped.
+  pub record EmptiesList (wraps : Gen → Bool) (following : Gen → Gen) (old : A) (h : ℕ × Gen) (n : ℕ × Bool) (new : A) : Type 0 where
+    pub items : List (Item Gen T)
+    pub was : IsList state interlinks old h items
+    pub list : IsList state interlinks new h []
+    pub removed : AreEntriesRemoved state interlinks old new following (indexes items)
+    pub others : KeepsOthers state interlinks old new (h ∷ [])
+    pub number : n.0 ≡ length items
+    pub overflow : IfSome (view old).counter (λ g. wraps_within wraps following (length items) g ≡ n.1)
+
+  -- Whether `first` to `last` is a range without `q`, if `first` is an item.
+  abbrev pub TestsRange : A → (first last q : ℕ × Gen) → Bool → Type 0
+  TestsRange arena first last q result = AllInLists state interlinks arena → IsItem (entry arena) first → IsTrue result ↔ IsRangeWithout state interlinks arena first last q

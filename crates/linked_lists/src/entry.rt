@@ -4,7 +4,10 @@ ghost use Rattle.std.specs.Prelude.{◌≡◌, Some};
 ghost use Rattle.std.specs.Borrow.{LendsIf, sem};
 ghost use Rattle.std.specs.Option.{option_copied_mut};
 ghost use Rattle.linked_lists.specs.declared.entry.Entry.TheVariants as entries;
+ghost use Rattle.arena_core.specs.Invalidation.{invalidation_result, is_overflow_result, value_within};
 ghost use Rattle.linked_lists.specs.RingCalls.{value_in};
+
+use arena_ptr::InvalidationResult;
 
 /// The value of a link: the head of a list, or an item.
 #[derive(Drop)]
@@ -39,5 +42,19 @@ pub(crate) fn value_of<T: Drop>(entry: Option<Entry<T>>) -> Option<T>
         Some(Entry::Item(value)) => Some(value),
         Some(Entry::Head) => None,
         None => None,
+    }
+}
+
+// Returns the removed value of an item, and `InvalidPtr` for a head.
+pub(crate) fn removed_value<T: Drop>(removed: InvalidationResult<Entry<T>>) -> InvalidationResult<T>
+    ensures { result ≡ invalidation_result (is_overflow_result removed)
+        (value_in (value_within removed)) }
+{
+    match removed {
+        InvalidationResult::Success(Entry::Item(value)) => InvalidationResult::Success(value),
+        InvalidationResult::GenerationOverflow(Entry::Item(value)) => {
+            InvalidationResult::GenerationOverflow(value)
+        }
+        _ => InvalidationResult::InvalidPtr,
     }
 }

@@ -1,19 +1,23 @@
 //! Linked lists, whose links are all stored in one arena.
 
-ghost use Rattle.std.specs.Prelude.{◌≡◌, ◌↔◌, List, [], ◌∷◌, ◌++◌, IsTrue, IsSome, IfSome, IfNone, IfOk, OnSome, None, Some};
+ghost use Rattle.std.specs.Prelude.{◌≡◌, ◌↔◌, ◌+◌, List, [], ◌∷◌, ◌++◌, IsTrue, IsSome, IfSome, IfNone, IfOk, OnOk, OnSome, None, Some};
 ghost use Rattle.std.specs.Borrow.{LendsSo, sem};
 ghost use Rattle.arena_traits.specs.Arena.{IsValid};
-ghost use Rattle.arena_traits.specs.Entries.{IsNew};
+ghost use Rattle.arena_traits.specs.Entries.{IsNew, count};
+ghost use Rattle.chain_laws.specs.declared.insert_kind.InsertKind.TheVariants as kinds;
 ghost use Rattle.chain_lists.specs.Rows.{chain_members};
 ghost use Rattle.chain_lists.specs.Sizes.{ReservesMore, CountsEntries, ReportsCapacity};
-ghost use Rattle.linked_lists.specs.LinkedLists.{AllInLists, IsHandle, HasItem, IsItem, ValueBecomes, ReadsValue, ReadsFirst, ReadsLast, ReadsNext, ReadsPrev, ReadsHandle, ListsItems, CreatesList, PushesFront, PushesBack, InsertsAfterItem, InsertsBeforeItem, RemovesListItem, ReplacesItem, MovesToFront, MovesToBack, MovesAfterItem, AppendsList, SplitsOff, RemovesList};
+ghost use Rattle.linked_lists.specs.LinkedLists.{AllInLists, EachInList, IsRangeWithout, MovesRangeToFront, MovesRangeToBack, MovesRangeAfter, IsHandle, HasItem, IsItem, ValueBecomes, ReadsValue, ReadsFirst, ReadsLast, ReadsNext, ReadsPrev, ReadsHandle, ListsItems, CreatesList, PushesFront, PushesBack, InsertsAfterItem, InsertsBeforeItem, RemovesListItem, ReplacesItem, MovesToFront, MovesToBack, MovesAfterItem, AppendsList, SplitsOff, RemovesList};
 ghost use Rattle.linked_lists.specs.RingCalls.{KeepsItemOnly, EndsList, EndsListOf, EmptiesList};
 
-use crate::entry::{Entry, value_of};
+use crate::entry::{Entry, removed_value, value_of};
 use crate::rings::{
-    are_same, find_head, is_head, next_link, prev_link, put_after, put_before, start_ring, take,
+    are_same, find_head, is_head, next_link, prev_link, put_after, put_before, range_is_without,
+    start_ring, take,
 };
-use arena_ptr::{AnyPointer, ChainInsertionError, GenKey, InxKey, PtrKey, ReallocationError};
+use arena_ptr::{
+    AnyPointer, ChainInsertionError, GenKey, InvalidationResult, InxKey, PtrKey, ReallocationError,
+};
 use chain_lists::reserve;
 use chain_traits::ChainArenaTrait;
 use chain_traits::walks::walk;
@@ -52,11 +56,31 @@ impl<P: PtrKey, T: Drop, A: ChainArenaTrait<P, Entry<T>> + Drop> LinkedLists<P, 
     pub fn new(alloc: Global) -> Self
         ensures new { IsNew P.Gen.first (A.view result) }
         ensures capacity { (A.view result).capacity ≡ 0 }
+        ensures implementation { A.starts 0 result }
     {
         LinkedLists {
             arena: A::new(alloc),
             of: PhantomData,
         }
+    }
+
+    /// Makes lists of the rings of an arena. Each has one head, whose pointer is the handle.
+    pub fn from_arena(arena: A) -> Self
+        requires { EachInList A.state A.interlinks arena }
+        ensures { result ≡ arena }
+    {
+        LinkedLists {
+            arena,
+            of: PhantomData,
+        }
+    }
+
+    /// Returns the arena. Its rings are the lists, each with its head.
+    pub fn into_arena(self) -> A
+        ensures arena { result ≡ self }
+        ensures lists { EachInList A.state A.interlinks result }
+    {
+        self.arena
     }
 
     /// Returns the number of items and of lists, taken together: each list has a head.
@@ -98,8 +122,10 @@ impl<P: PtrKey, T: Drop, A: ChainArenaTrait<P, Entry<T>> + Drop> LinkedLists<P, 
     ///
     /// On error, nothing changes.
     pub fn reserve(&mut self, additional: usize) -> Result<(), ReallocationError>
-        ensures { ReservesMore A.state A.interlinks P.Inx.greatest additional self.old result
-            self.new }
+        ensures reserves { ReservesMore A.state A.interlinks P.Inx.greatest additional self.old
+            result self.new }
+        ensures implementation { OnOk result (A.grows (count (A.view self.old) + additional)
+            self.old self.new) }
     {
         reserve(&mut self.arena, additional)
     }
@@ -228,7 +254,10 @@ impl<P: PtrKey, T: Drop, A: ChainArenaTrait<P, Entry<T>> + Drop> LinkedLists<P, 
     ///
     /// On error, nothing changes.
     pub fn new_list(&mut self) -> Result<P, ReallocationError>
-        ensures { CreatesList A.state A.interlinks P.key P.Inx.greatest self.old result self.new }
+        ensures outcome { CreatesList A.state A.interlinks P.key P.Inx.greatest self.old result
+            self.new }
+        ensures implementation { IfOk result (A.inserts self.old kinds.SingleLinkCyclic Entry.Head
+            self.new) }
     {
         start_ring(&mut self.arena, Entry::Head)
     }
@@ -243,8 +272,10 @@ impl<P: PtrKey, T: Drop, A: ChainArenaTrait<P, Entry<T>> + Drop> LinkedLists<P, 
     ///
     /// On error, nothing changes and the value is dropped.
     pub fn push_front(&mut self, h: P, value: T) -> Result<P, ChainInsertionError>
-        ensures { PushesFront A.state A.interlinks P.key P.Inx.greatest self.old h value result
-            self.new }
+        ensures outcome { PushesFront A.state A.interlinks P.key P.Inx.greatest self.old h value
+            result self.new }
+        ensures implementation { IfOk result (A.inserts self.old (kinds.NextTo h) (Entry.Item value)
+            self.new) }
     {
         if !self.is_list(h) {
             return Err(ChainInsertionError::FailedLinkRequirement);
@@ -262,8 +293,10 @@ impl<P: PtrKey, T: Drop, A: ChainArenaTrait<P, Entry<T>> + Drop> LinkedLists<P, 
     ///
     /// On error, nothing changes and the value is dropped.
     pub fn push_back(&mut self, h: P, value: T) -> Result<P, ChainInsertionError>
-        ensures { PushesBack A.state A.interlinks P.key P.Inx.greatest self.old h value result
-            self.new }
+        ensures outcome { PushesBack A.state A.interlinks P.key P.Inx.greatest self.old h value
+            result self.new }
+        ensures implementation { IfOk result (A.inserts self.old (kinds.PrevTo h) (Entry.Item value)
+            self.new) }
     {
         if !self.is_list(h) {
             return Err(ChainInsertionError::FailedLinkRequirement);
@@ -281,8 +314,10 @@ impl<P: PtrKey, T: Drop, A: ChainArenaTrait<P, Entry<T>> + Drop> LinkedLists<P, 
     ///
     /// On error, nothing changes and the value is dropped.
     pub fn insert_after(&mut self, p: P, value: T) -> Result<P, ChainInsertionError>
-        ensures { InsertsAfterItem A.state A.interlinks P.key P.Inx.greatest self.old p value result
-            self.new }
+        ensures outcome { InsertsAfterItem A.state A.interlinks P.key P.Inx.greatest self.old p value
+            result self.new }
+        ensures implementation { IfOk result (A.inserts self.old (kinds.NextTo p) (Entry.Item value)
+            self.new) }
     {
         if !self.is_item(p) {
             return Err(ChainInsertionError::FailedLinkRequirement);
@@ -300,8 +335,10 @@ impl<P: PtrKey, T: Drop, A: ChainArenaTrait<P, Entry<T>> + Drop> LinkedLists<P, 
     ///
     /// On error, nothing changes and the value is dropped.
     pub fn insert_before(&mut self, p: P, value: T) -> Result<P, ChainInsertionError>
-        ensures { InsertsBeforeItem A.state A.interlinks P.key P.Inx.greatest self.old p value
+        ensures outcome { InsertsBeforeItem A.state A.interlinks P.key P.Inx.greatest self.old p value
             result self.new }
+        ensures implementation { IfOk result (A.inserts self.old (kinds.PrevTo p) (Entry.Item value)
+            self.new) }
     {
         if !self.is_item(p) {
             return Err(ChainInsertionError::FailedLinkRequirement);
@@ -358,16 +395,17 @@ impl<P: PtrKey, T: Drop, A: ChainArenaTrait<P, Entry<T>> + Drop> LinkedLists<P, 
 
     /// Removes an item from its list and returns its value.
     ///
-    /// The other items keep their order, and the capacity stays the same. Returns `None` and
-    /// changes nothing if `p` is not an item.
-    pub fn remove(&mut self, p: P) -> Option<T>
+    /// The other items keep their order, and the capacity stays the same. Returns
+    /// `GenerationOverflow` if the generation counter wrapped: pointers that were removed may then
+    /// become valid again. Returns `InvalidPtr` and changes nothing if `p` is not an item.
+    pub fn remove(&mut self, p: P) -> InvalidationResult<T>
         ensures { RemovesListItem A.state A.interlinks ⟦<P as AnyPointer>⟧.pointers self.old p
             result self.new }
     {
         if !self.is_item(p) {
-            return None;
+            return InvalidationResult::InvalidPtr;
         }
-        value_of(take(&mut self.arena, p))
+        removed_value(take(&mut self.arena, p))
     }
 
     /// Moves an item to the start of a list, its own or another one.
@@ -423,6 +461,75 @@ impl<P: PtrKey, T: Drop, A: ChainArenaTrait<P, Entry<T>> + Drop> LinkedLists<P, 
             return None;
         }
         self.arena.move_after(p, q)
+    }
+
+    /// Returns whether `first` to `last` are items of one list, each directly after the one before
+    /// it, and `q` is none of them.
+    ///
+    /// Takes as many steps as there are items from `first` to `last`, or to `q` or the end of the
+    /// list.
+    pub fn is_range_without(&self, first: P, last: P, q: P) -> bool
+        ensures { IsTrue result ↔ IsRangeWithout A.state A.interlinks self.now (P.key first)
+            (P.key last) (P.key q) }
+    {
+        self.all_in_lists();
+        if !self.is_item(first) {
+            return false;
+        }
+        range_is_without(&self.arena, first, last, q)
+    }
+
+    /// Moves a range of items to the start of a list, their own or another one, in O(1).
+    ///
+    /// Pointers and all other items stay. `is_range_without` tests the requirement: a handle is in
+    /// no range. Returns `None` and changes nothing if `h` is not a handle.
+    pub fn move_range_to_front(&mut self, first: P, last: P, h: P) -> Option<()>
+        requires { IsRangeWithout A.state A.interlinks self.old (P.key first) (P.key last)
+            (P.key h) }
+        ensures { MovesRangeToFront A.state A.interlinks self.old (P.key first) (P.key last)
+            (P.key h) result self.new }
+    {
+        if !self.is_list(h) {
+            return None;
+        }
+        self.arena.splice_after(h, first, last)
+    }
+
+    /// Moves a range of items to the end of a list, their own or another one, in O(1).
+    ///
+    /// Pointers and all other items stay. `is_range_without` tests the requirement: a handle is in
+    /// no range. Returns `None` and changes nothing if `h` is not a handle.
+    pub fn move_range_to_back(&mut self, first: P, last: P, h: P) -> Option<()>
+        requires { IsRangeWithout A.state A.interlinks self.old (P.key first) (P.key last)
+            (P.key h) }
+        ensures { MovesRangeToBack A.state A.interlinks self.old (P.key first) (P.key last)
+            (P.key h) result self.new }
+    {
+        if !self.is_list(h) {
+            return None;
+        }
+        let end = self.last_link(h);
+        if are_same(end, last) {
+            return Some(());
+        }
+        self.arena.splice_after(end, first, last)
+    }
+
+    /// Moves a range of items directly behind another item, in the same list or in another one, in
+    /// O(1).
+    ///
+    /// Pointers and all other items stay. `is_range_without` tests the requirement. Returns `None`
+    /// and changes nothing if `q` is not an item.
+    pub fn move_range_after(&mut self, first: P, last: P, q: P) -> Option<()>
+        requires { IsRangeWithout A.state A.interlinks self.old (P.key first) (P.key last)
+            (P.key q) }
+        ensures { MovesRangeAfter A.state A.interlinks self.old (P.key first) (P.key last)
+            (P.key q) result self.new }
+    {
+        if !self.is_item(q) {
+            return None;
+        }
+        self.arena.splice_after(q, first, last)
     }
 
     /// Moves all items of the list of `k` behind those of the list of `h`, in O(1).
@@ -512,34 +619,39 @@ impl<P: PtrKey, T: Drop, A: ChainArenaTrait<P, Entry<T>> + Drop> LinkedLists<P, 
         }
     }
 
-    // Removes all items of a list, from the first one on, and returns how many they were.
-    fn remove_items(&mut self, h: P) -> usize
+    // Removes all items of a list, from the first one on, and returns how many they were, and
+    // whether the generation counter wrapped.
+    fn remove_items(&mut self, h: P) -> (usize, bool)
         requires { IsHandle (A.entry self.old) (P.key h) }
-        ensures { EmptiesList A.state A.interlinks P.Gen.following self.old (P.key h) result
-            self.new }
+        ensures { EmptiesList A.state A.interlinks P.Gen.wraps P.Gen.following self.old (P.key h)
+            result self.new }
     {
         self.all_in_lists();
         let links = self.len();
+        let mut wrapped = false;
         while let Some(p) = self.first(h) {
-            self.remove(p);
+            let (_, overflow) = self.remove(p).overflowing();
+            wrapped |= overflow;
         }
-        links - self.len()
+        (links - self.len(), wrapped)
     }
 
     /// Removes a list, drops its items, and returns how many they were.
     ///
-    /// All other lists and the capacity stay the same. Returns `None` and changes nothing if `h` is
-    /// not a handle.
-    pub fn remove_list(&mut self, h: P) -> Option<usize>
-        ensures { RemovesList A.state A.interlinks P.Gen.following self.old (P.key h) result
-            self.new }
+    /// All other lists and the capacity stay the same. Returns `GenerationOverflow` if the
+    /// generation counter wrapped: pointers that were removed may then become valid again. Returns
+    /// `InvalidPtr` and changes nothing if `h` is not a handle.
+    pub fn remove_list(&mut self, h: P) -> InvalidationResult<usize>
+        ensures { RemovesList A.state A.interlinks P.Gen.wraps P.Gen.following self.old (P.key h)
+            result self.new }
     {
         if !self.is_list(h) {
-            return None;
+            return InvalidationResult::InvalidPtr;
         }
-        let items = self.remove_items(h);
-        take(&mut self.arena, h);
-        Some(items)
+        let (items, mut wrapped) = self.remove_items(h);
+        let (_, overflow) = take(&mut self.arena, h).overflowing();
+        wrapped |= overflow;
+        InvalidationResult::from_overflow(wrapped, items)
     }
 }
 

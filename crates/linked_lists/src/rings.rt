@@ -1,13 +1,17 @@
 //! Insertions, removals and reads in the rings of an arena of links.
 
-ghost use Rattle.std.specs.Prelude.{◌≡◌, ◌↔◌, IsTrue};
+ghost use Rattle.std.specs.Prelude.{◌≡◌, ◌↔◌, IsTrue, IfOk, IfSome, OnSome};
+ghost use Rattle.arena_core.specs.Invalidation.{is_overflow_result, value_within};
+ghost use Rattle.chain_laws.specs.declared.insert_kind.InsertKind.TheVariants as kinds;
 ghost use Rattle.chain_laws.specs.Chains.{cyclic};
 ghost use Rattle.chain_lists.specs.Lists.{StartsList, InsertsItemAfter, InsertsItemBefore, RemovesItem};
 ghost use Rattle.linked_lists.specs.LinkedLists.{IsHandle};
-ghost use Rattle.linked_lists.specs.RingCalls.{ReadsNextLink, ReadsPrevLink, FindsHead};
+ghost use Rattle.linked_lists.specs.RingCalls.{ReadsNextLink, ReadsPrevLink, FindsHead, TestsRange};
 
 use crate::entry::Entry;
-use arena_ptr::{AnyPointer, ChainInsertionError, GenKey, InxKey, PtrKey, ReallocationError};
+use arena_ptr::{
+    AnyPointer, ChainInsertionError, GenKey, InvalidationResult, InxKey, PtrKey, ReallocationError,
+};
 use arena_traits::Advancer;
 use chain_links::LinkInsertKind;
 use chain_traits::ChainArenaTrait;
@@ -18,8 +22,10 @@ pub(crate) fn start_ring<P: PtrKey, V: Drop, A: ChainArenaTrait<P, V>>(
     arena: &mut A,
     value: V,
 ) -> Result<P, ReallocationError>
-    ensures { StartsList A.state A.interlinks cyclic P.key P.Inx.greatest
+    ensures outcome { StartsList A.state A.interlinks cyclic P.key P.Inx.greatest
         arena.old value result arena.new }
+    ensures implementation { IfOk result (A.inserts arena.old kinds.SingleLinkCyclic value
+        arena.new) }
 {
     arena.agrees();
     arena.insert(LinkInsertKind::SingleLinkCyclic, value)
@@ -31,8 +37,9 @@ pub(crate) fn put_after<P: PtrKey, V: Drop, A: ChainArenaTrait<P, V>>(
     p: P,
     value: V,
 ) -> Result<P, ChainInsertionError>
-    ensures { InsertsItemAfter A.state A.interlinks cyclic P.key P.Inx.greatest
+    ensures outcome { InsertsItemAfter A.state A.interlinks cyclic P.key P.Inx.greatest
         arena.old (P.key p) value result arena.new }
+    ensures implementation { IfOk result (A.inserts arena.old (kinds.NextTo p) value arena.new) }
 {
     arena.agrees();
     arena.insert_reallocating(LinkInsertKind::NextTo(p), value)
@@ -44,20 +51,26 @@ pub(crate) fn put_before<P: PtrKey, V: Drop, A: ChainArenaTrait<P, V>>(
     p: P,
     value: V,
 ) -> Result<P, ChainInsertionError>
-    ensures { InsertsItemBefore A.state A.interlinks cyclic P.key P.Inx.greatest
+    ensures outcome { InsertsItemBefore A.state A.interlinks cyclic P.key P.Inx.greatest
         arena.old (P.key p) value result arena.new }
+    ensures implementation { IfOk result (A.inserts arena.old (kinds.PrevTo p) value arena.new) }
 {
     arena.agrees();
     arena.insert_reallocating(LinkInsertKind::PrevTo(p), value)
 }
 
 // Removes a link and returns its value.
-pub(crate) fn take<P: PtrKey, V: Drop, A: ChainArenaTrait<P, V>>(arena: &mut A, p: P) -> Option<V>
-    ensures { RemovesItem A.state A.interlinks cyclic ⟦<P as AnyPointer>⟧.pointers arena.old p
-        result arena.new }
+pub(crate) fn take<P: PtrKey, V: Drop, A: ChainArenaTrait<P, V>>(
+    arena: &mut A,
+    p: P,
+) -> InvalidationResult<V>
+    ensures item { RemovesItem A.state A.interlinks cyclic ⟦<P as AnyPointer>⟧.pointers arena.old
+        p (value_within result) arena.new }
+    ensures overflow { OnSome (value_within result) (IfSome (A.view arena.old).counter
+        (λ g. P.Gen.wraps g ≡ is_overflow_result result)) }
 {
     arena.agrees();
-    arena.remove(p).allow()
+    arena.remove(p)
 }
 
 // Returns the pointer of the next link, or `None` if `p` is not valid.
@@ -115,4 +128,33 @@ pub(crate) fn find_head<P: PtrKey, T: Drop, A: ChainArenaTrait<P, Entry<T>>>(
         }
     }
     None
+}
+
+// Returns whether the walk from `first` comes to `last` before any head, and not to `q` before that.
+pub(crate) fn range_is_without<P: PtrKey, T: Drop, A: ChainArenaTrait<P, Entry<T>>>(
+    arena: &A,
+    first: P,
+    last: P,
+    q: P,
+) -> bool
+    ensures { TestsRange A.state A.interlinks arena.now (P.key first) (P.key last) (P.key q)
+        result }
+{
+    advancer_passes_the_walk(arena, first);
+    let mut along = match arena.advancer_chain(first) {
+        Some(along) => along,
+        None => return false,
+    };
+    while let Some(p) = along.advance(arena) {
+        if is_head(arena, p) {
+            return false;
+        }
+        if are_same(p, q) {
+            return false;
+        }
+        if are_same(p, last) {
+            return true;
+        }
+    }
+    false
 }

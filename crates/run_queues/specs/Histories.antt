@@ -1,6 +1,8 @@
 -- Calls on queues, one after another, and the steps that they make in each queue.
-use Rattle.std.specs.Prelude.{◌≡◌, ◌≢◌, ◌⊎◌, ℕ, List, [], ◌∷◌, ◌++◌, Option, Some, Result, Ok}
+use Rattle.std.specs.Prelude.{◌≡◌, ◌≢◌, ◌⊎◌, ℕ, List, [], ◌∷◌, ◌++◌, Option, Some, IsSome, Result, Ok}
 use Rattle.arena_core.specs.declared.errors.ReallocationError.{ReallocationError}
+use Rattle.arena_core.specs.Invalidation.{value_within}
+use Rattle.arena_core.specs.declared.invalidation.InvalidationResult.{InvalidationResult}
 use Rattle.arena_core.specs.PointerKinds.{PointerKind}
 use Rattle.chain_laws.specs.Chains.{LinkMap}
 use Rattle.arena_traits.specs.Entries.{ArenaView, ArenaState}
@@ -67,8 +69,8 @@ module _ {A Gen T : Type 0} {view : A → ArenaView Gen (Entry T)} {entry : A �
     pub wake_one : (old new : A) (l q p : P) → WakesOne state interlinks pointers.key old l q (Some p) new → Makes old (wakes_one (pointers.key l) (pointers.key q) (pointers.key p)) new
     pub wake_all : (old new : A) (l q : ℕ × Gen) → AppendsList state interlinks old q l (Some tt) new → Makes old (wakes_all l q) new
     pub replace : (old new : A) (p : ℕ × Gen) (t former : T) → ReplacesItem state interlinks old p t (Some former) new → Makes old (replaces p) new
-    pub cancel : (old new : A) (p : P) (t : T) → RemovesListItem state interlinks pointers old p (Some t) new → Makes old (cancels (pointers.key p)) new
-    pub remove_queue : (old new : A) (q : ℕ × Gen) (n : ℕ) → RemovesList state interlinks pointers.following old q (Some n) new → Makes old (removes q) new
+    pub cancel : (old new : A) (p : P) (result : InvalidationResult T) → IsSome (value_within result) → RemovesListItem state interlinks pointers old p result new → Makes old (cancels (pointers.key p)) new
+    pub remove_queue : (old new : A) (q : ℕ × Gen) (result : InvalidationResult ℕ) → IsSome (value_within result) → RemovesList state interlinks pointers.wraps pointers.following old q result new → Makes old (removes q) new
     pub reserve : (greatest additional : ℕ) (old new : A) (done : Result Unit ReallocationError) → ReservesMore state interlinks greatest additional old done new → Makes old grows new
 
   -- Changes one after another. Before each, each task is in exactly one queue, as always.

@@ -1,14 +1,17 @@
 //! Queues of tasks, which are all stored in one arena.
 
-ghost use Rattle.std.specs.Prelude.{◌≡◌, ◌↔◌, ℕ, [], IsTrue, IfSome, IfOk, IsSome, None, Some};
-ghost use Rattle.arena_traits.specs.Entries.{IsNew};
+ghost use Rattle.std.specs.Prelude.{◌≡◌, ◌↔◌, ◌+◌, ℕ, [], IsTrue, IfSome, IfOk, OnOk, IsSome, None, Some};
+ghost use Rattle.arena_traits.specs.Entries.{IsNew, count};
+ghost use Rattle.chain_laws.specs.declared.insert_kind.InsertKind.TheVariants as kinds;
 ghost use Rattle.chain_lists.specs.Sizes.{ReservesMore, CountsEntries, ReportsCapacity};
 ghost use Rattle.linked_lists.specs.LinkedLists.{AllInLists, IsHandle, IsItem, ReadsValue, ReadsFirst, ReadsHandle, ListsItems, CreatesList, PushesBack, RemovesListItem, ReplacesItem, MovesToBack, AppendsList, RemovesList};
 ghost use Rattle.run_queues.specs.Histories.{CallsMakeChanges, CallsTakeSteps, CallsAreFair};
 ghost use Rattle.run_queues.specs.RunQueues.{TakesTurn, WakesOne};
 ghost use Rattle.run_queues.specs.Turns.{TasksStayAhead, TurnsAreFair};
 
-use arena_ptr::{AnyPointer, ChainInsertionError, GenKey, InxKey, PtrKey, ReallocationError};
+use arena_ptr::{
+    AnyPointer, ChainInsertionError, GenKey, InvalidationResult, InxKey, PtrKey, ReallocationError,
+};
 use chain_traits::ChainArenaTrait;
 use linked_lists::{Entry, LinkedLists};
 use std::alloc::{AllocError, Global};
@@ -42,6 +45,7 @@ impl<P: PtrKey, T: Drop, A: ChainArenaTrait<P, Entry<T>> + Drop> RunQueues<P, T,
     pub fn new(alloc: Global) -> Self
         ensures new { IsNew P.Gen.first (A.view result) }
         ensures capacity { (A.view result).capacity ≡ 0 }
+        ensures implementation { A.starts 0 result }
     {
         RunQueues {
             lists: LinkedLists::new(alloc),
@@ -87,8 +91,10 @@ impl<P: PtrKey, T: Drop, A: ChainArenaTrait<P, Entry<T>> + Drop> RunQueues<P, T,
     ///
     /// On error, nothing changes.
     pub fn reserve(&mut self, additional: usize) -> Result<(), ReallocationError>
-        ensures { ReservesMore A.state A.interlinks P.Inx.greatest additional self.old result
-            self.new }
+        ensures reserves { ReservesMore A.state A.interlinks P.Inx.greatest additional self.old
+            result self.new }
+        ensures implementation { OnOk result (A.grows (count (A.view self.old) + additional)
+            self.old self.new) }
     {
         self.lists.reserve(additional)
     }
@@ -164,7 +170,10 @@ impl<P: PtrKey, T: Drop, A: ChainArenaTrait<P, Entry<T>> + Drop> RunQueues<P, T,
     ///
     /// On error, nothing changes.
     pub fn new_queue(&mut self) -> Result<P, ReallocationError>
-        ensures { CreatesList A.state A.interlinks P.key P.Inx.greatest self.old result self.new }
+        ensures outcome { CreatesList A.state A.interlinks P.key P.Inx.greatest self.old result
+            self.new }
+        ensures implementation { IfOk result (A.inserts self.old kinds.SingleLinkCyclic Entry.Head
+            self.new) }
     {
         self.lists.new_list()
     }
@@ -179,8 +188,10 @@ impl<P: PtrKey, T: Drop, A: ChainArenaTrait<P, Entry<T>> + Drop> RunQueues<P, T,
     ///
     /// On error, nothing changes and the task is dropped.
     pub fn spawn(&mut self, queue: P, task: T) -> Result<P, ChainInsertionError>
-        ensures { PushesBack A.state A.interlinks P.key P.Inx.greatest self.old queue task result
-            self.new }
+        ensures outcome { PushesBack A.state A.interlinks P.key P.Inx.greatest self.old queue task
+            result self.new }
+        ensures implementation { IfOk result (A.inserts self.old (kinds.PrevTo queue)
+            (Entry.Item task) self.new) }
     {
         self.lists.push_back(queue, task)
     }
@@ -197,9 +208,10 @@ impl<P: PtrKey, T: Drop, A: ChainArenaTrait<P, Entry<T>> + Drop> RunQueues<P, T,
 
     /// Removes a task from its queue and returns its value.
     ///
-    /// The other tasks keep their order, and the capacity stays the same. Returns `None` and changes
-    /// nothing if `task` is not a task.
-    pub fn cancel(&mut self, task: P) -> Option<T>
+    /// The other tasks keep their order, and the capacity stays the same. Returns
+    /// `GenerationOverflow` if the generation counter wrapped: pointers that were removed may then
+    /// become valid again. Returns `InvalidPtr` and changes nothing if `task` is not a task.
+    pub fn cancel(&mut self, task: P) -> InvalidationResult<T>
         ensures { RemovesListItem A.state A.interlinks ⟦<P as AnyPointer>⟧.pointers self.old task
             result self.new }
     {
@@ -208,11 +220,12 @@ impl<P: PtrKey, T: Drop, A: ChainArenaTrait<P, Entry<T>> + Drop> RunQueues<P, T,
 
     /// Removes a queue, drops its tasks, and returns how many they were.
     ///
-    /// All other queues and the capacity stay the same. Returns `None` and changes nothing if
-    /// `queue` is not a handle.
-    pub fn remove_queue(&mut self, queue: P) -> Option<usize>
-        ensures { RemovesList A.state A.interlinks P.Gen.following self.old (P.key queue) result
-            self.new }
+    /// All other queues and the capacity stay the same. Returns `GenerationOverflow` if the
+    /// generation counter wrapped: pointers that were removed may then become valid again. Returns
+    /// `InvalidPtr` and changes nothing if `queue` is not a handle.
+    pub fn remove_queue(&mut self, queue: P) -> InvalidationResult<usize>
+        ensures { RemovesList A.state A.interlinks P.Gen.wraps P.Gen.following self.old
+            (P.key queue) result self.new }
     {
         self.lists.remove_list(queue)
     }

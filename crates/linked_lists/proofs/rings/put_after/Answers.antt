@@ -6,8 +6,8 @@ use Rattle.chain_traits.proofs.OutcomeLemmas.{insertion_to}
 use Rattle.chain_lists.proofs.ListChangeLemmas.{item_after}
 use Rattle.linked_lists.proofs.rings.put_after.Goals as goal
 
-pub returns : goal.returns
-returns g c =
+pub returns-clause-outcome : goal.returns-clause-outcome
+returns-clause-outcome g c =
     let a = c.args.arena.now in
     let p = g.P.PtrKey.key c.args.p in
     record {

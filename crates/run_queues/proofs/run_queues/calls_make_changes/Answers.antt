@@ -1,5 +1,17 @@
 -- The contracts state these changes.
+use Rattle.std.proofs.Common.{Option}
+use Rattle.std.specs.Prelude.{Bool, IsSome}
+use Rattle.arena_core.specs.Invalidation.{value_within}
+use Rattle.arena_core.specs.declared.invalidation.InvalidationResult.{InvalidationResult}
+use Rattle.arena_core.specs.declared.invalidation.InvalidationResult.TheVariants.{Success, GenerationOverflow, InvalidPtr}
+use Rattle.arena_traits.specs.CallOutcomes.{ReportsOverflow}
 use Rattle.run_queues.proofs.run_queues.calls_make_changes.Goals as goal
+
+-- What was done, whether or not the counter wrapped.
+done_anyway : {X Gen : Type 0} (wraps : Gen → Bool) (counter : Option Gen) (invalid : Type 0) (done : X → Type 0) (r : InvalidationResult X) → IsSome (value_within r) → ReportsOverflow wraps counter invalid done r → (x : X) × done x
+done_anyway wraps counter invalid done InvalidPtr some is = absurd (cc)
+done_anyway wraps counter invalid done (Success x) some is = (x, is.1)
+done_anyway wraps counter invalid done (GenerationOverflow x) some is = (x, is.1)
 
 pub returns : goal.returns
 returns g c = record {
@@ -10,7 +22,7 @@ returns g c = record {
   wake_one = λ old new l q p is. is;
   wake_all = λ old new l q is. is;
   replace = λ old new p t former is. (t, former, is.0, is.1);
-  cancel = λ old new p t is. (t, is);
-  remove_queue = λ old new q n is. (is.0, is.1);
+  cancel = λ old new p result some is. done_anyway _ _ _ _ result some is;
+  remove_queue = λ old new q result some is. (is.0, (done_anyway _ _ _ _ result some is.1).1.0);
   reserve = λ greatest additional old new done is. is.kept;
 }

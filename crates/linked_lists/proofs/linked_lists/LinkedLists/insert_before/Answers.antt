@@ -4,10 +4,10 @@ use Rattle.linked_lists.specs.LinkedLists.{GrowsBefore}
 use Rattle.linked_lists.proofs.InsertionLemmas.{inserts_before, each_ahead, each_added}
 use Rattle.linked_lists.proofs.linked_lists.LinkedLists.insert_before.Goals as goal
 
-pub returns : goal.returns
-returns g c =
+pub returns-clause-outcome : goal.returns-clause-outcome
+returns-clause-outcome g c =
     let may = rw (← c.self.view_is) at (c.if-not-is_item.ensures.0 refl) in
-    rw (← c.self.view_is) (inserts_before g.A.ArenaTrait.state g.A.ChainArenaTrait.interlinks g.P.PtrKey.key _ c.self.inside.arena c.put_before.new.arena (g.P.PtrKey.key c.args.p) c.args.value c.put_before.result may c.put_before.ensures)
+    rw (← c.self.view_is) (inserts_before g.A.ArenaTrait.state g.A.ChainArenaTrait.interlinks g.P.PtrKey.key _ c.self.inside.arena c.put_before.new.arena (g.P.PtrKey.key c.args.p) c.args.value c.put_before.result may c.put_before.ensures.outcome)
 
 pub invariant_of-self : goal.invariant_of-self
 invariant_of-self g c =
@@ -18,5 +18,5 @@ invariant_of-self g c =
     let p = g.P.PtrKey.key c.args.p in
     let may = rw (← c.self.view_is) at (c.if-not-is_item.ensures.0 refl) in
     each_added state interlinks g.P.PtrKey.key _ old new p c.args.value c.put_before.result _ (λ a b. GrowsBefore state interlinks a b p) c.self.invariant
-    (inserts_before state interlinks g.P.PtrKey.key _ old new p c.args.value c.put_before.result may c.put_before.ensures)
+    (inserts_before state interlinks g.P.PtrKey.key _ old new p c.args.value c.put_before.result may c.put_before.ensures.outcome)
     (λ q holds. each_ahead state interlinks old new p (g.P.PtrKey.key q, c.args.value) c.self.invariant holds)

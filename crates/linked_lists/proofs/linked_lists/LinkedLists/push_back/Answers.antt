@@ -4,10 +4,10 @@ use Rattle.linked_lists.specs.LinkedLists.{GrowsAtEnd}
 use Rattle.linked_lists.proofs.InsertionLemmas.{pushes_back, each_at_end, each_added}
 use Rattle.linked_lists.proofs.linked_lists.LinkedLists.push_back.Goals as goal
 
-pub returns : goal.returns
-returns g c =
+pub returns-clause-outcome : goal.returns-clause-outcome
+returns-clause-outcome g c =
     let may = rw (← c.self.view_is) at (c.if-not-is_list.ensures.0 refl) in
-    rw (← c.self.view_is) (pushes_back g.A.ArenaTrait.state g.A.ChainArenaTrait.interlinks g.P.PtrKey.key _ c.self.inside.arena c.put_before.new.arena (g.P.PtrKey.key c.args.h) c.args.value c.put_before.result may c.put_before.ensures)
+    rw (← c.self.view_is) (pushes_back g.A.ArenaTrait.state g.A.ChainArenaTrait.interlinks g.P.PtrKey.key _ c.self.inside.arena c.put_before.new.arena (g.P.PtrKey.key c.args.h) c.args.value c.put_before.result may c.put_before.ensures.outcome)
 
 pub invariant_of-self : goal.invariant_of-self
 invariant_of-self g c =
@@ -18,5 +18,5 @@ invariant_of-self g c =
     let p = g.P.PtrKey.key c.args.h in
     let may = rw (← c.self.view_is) at (c.if-not-is_list.ensures.0 refl) in
     each_added state interlinks g.P.PtrKey.key _ old new p c.args.value c.put_before.result _ (λ a b. GrowsAtEnd state interlinks a b p) c.self.invariant
-    (pushes_back state interlinks g.P.PtrKey.key _ old new p c.args.value c.put_before.result may c.put_before.ensures)
+    (pushes_back state interlinks g.P.PtrKey.key _ old new p c.args.value c.put_before.result may c.put_before.ensures.outcome)
     (λ q holds. each_at_end state interlinks old new p (g.P.PtrKey.key q, c.args.value) c.self.invariant holds)

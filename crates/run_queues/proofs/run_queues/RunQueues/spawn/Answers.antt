@@ -1,5 +1,5 @@
 -- The task is pushed.
 use Rattle.run_queues.proofs.run_queues.RunQueues.spawn.Goals as goal
 
-pub returns : goal.returns
-returns g c = rw (← c.self.view_is) c.push_back.ensures
+pub returns-clause-outcome : goal.returns-clause-outcome
+returns-clause-outcome g c = rw (← c.self.view_is) c.push_back.ensures.outcome
