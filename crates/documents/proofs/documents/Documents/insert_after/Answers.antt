@@ -1,0 +1,5 @@
+-- The document is a list.
+use Rattle.documents.proofs.documents.Documents.insert_after.Goals as goal
+
+pub returns-clause-outcome : goal.returns-clause-outcome
+returns-clause-outcome g c = rw (← c.self.view_is) c.insert_after.ensures.outcome
