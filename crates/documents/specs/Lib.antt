@@ -1,1 +1,2 @@
 pub mod Documents
+pub mod Histories

@@ -4,6 +4,7 @@ ghost use Rattle.std.specs.Prelude.{◌≡◌, ◌↔◌, ◌+◌, [], IsTrue, I
 ghost use Rattle.arena_traits.specs.Entries.{IsNew, count};
 ghost use Rattle.chain_laws.specs.declared.insert_kind.InsertKind.TheVariants as kinds;
 ghost use Rattle.chain_lists.specs.Sizes.{ReservesMore, CountsEntries, ReportsCapacity};
+ghost use Rattle.documents.specs.Histories.{CallsMakeChanges, CallsKeepParagraphs};
 ghost use Rattle.documents.specs.Documents.{FindsDocument, SplitsDocument};
 ghost use Rattle.linked_lists.specs.LinkedLists.{AllInLists, IsHandle, IsItem, IsRangeWithout, ReadsValue, ReadsFirst, ReadsLast, ReadsNext, ReadsPrev, ReadsHandle, ListsItems, CreatesList, PushesFront, PushesBack, InsertsAfterItem, InsertsBeforeItem, RemovesListItem, ReplacesItem, MovesToFront, MovesToBack, MovesAfterItem, MovesRangeToFront, MovesRangeToBack, MovesRangeAfter, AppendsList, SplitsOff, RemovesList};
 
@@ -438,3 +439,18 @@ impl<P: PtrKey, T: Drop, A: ChainArenaTrait<P, Entry<T>> + Drop> Documents<P, T,
         }
     }
 }
+
+/// States that each call that succeeds makes a change, of those that the law below is about.
+///
+/// This follows from the contracts of the calls. The function has no effect.
+pub fn calls_make_changes<P: PtrKey, T: Drop, A: ChainArenaTrait<P, Entry<T>>>()
+    ensures { CallsMakeChanges A.state A.interlinks ⟦<P as AnyPointer>⟧.pointers }
+{}
+
+/// States that no paragraph is lost: after any list of calls, each paragraph that was there is in
+/// exactly one document, at one place, unless a call removed it, alone or with its document.
+///
+/// This follows from the contracts of the calls. The function has no effect.
+pub fn calls_keep_paragraphs<P: PtrKey, T: Drop, A: ChainArenaTrait<P, Entry<T>>>()
+    ensures { CallsKeepParagraphs A.state A.interlinks ⟦<P as AnyPointer>⟧.pointers }
+{}

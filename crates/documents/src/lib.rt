@@ -6,5 +6,5 @@
 
 mod documents;
 
-pub use documents::{Document, Documents};
+pub use documents::{Document, Documents, calls_keep_paragraphs, calls_make_changes};
 pub use linked_lists::Entry;

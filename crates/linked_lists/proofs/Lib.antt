@@ -12,3 +12,4 @@ mod ListRemovalLemmas
 mod RangeLemmas
 mod RangeMoveLemmas
 mod RangeTestLemmas
+pub mod KeptItemLemmas

@@ -114,6 +114,13 @@ module _ {A Gen T : Type 0} {view : A → ArenaView Gen (Entry T)} {entry : A �
       pub ends : HasEnds range first last
       pub apart : IsNoneOf (pointers_of range) q
 
+    -- `p` is an item of the list of `h`.
+    pub record IsInListOf (h p : ℕ × Gen) : Type 0 where
+      pub value : T
+      pub before : List (Item Gen T)
+      pub after : List (Item Gen T)
+      pub list : IsList h (before ++ (p, value) ∷ after)
+
   module _ (old new : A) where
     -- Every list whose handle is none of these keeps its items.
     abbrev pub KeepsOthers : List (ℕ × Gen) → Type 0
