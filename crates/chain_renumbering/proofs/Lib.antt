@@ -1,0 +1,6 @@
+pub mod MovedItemLemmas
+mod MappedListLemmas
+mod MoveTableLemmas
+mod TableLookupLemmas
+mod RenamedListLemmas
+mod RenumberingLemmas

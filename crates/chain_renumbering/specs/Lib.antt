@@ -1,0 +1,2 @@
+pub mod Renumbering
+pub mod MoveTables
