@@ -4,6 +4,8 @@
 //! gives the new pointer for an old one in O(1).
 #![tactic(auto)]
 
+mod renumber_trait;
 mod renumbering;
 
+pub use renumber_trait::RenumberChainArenaTrait;
 pub use renumbering::{Renumbering, renumber};

@@ -1,1 +1,2 @@
 mod HistoryLemmas
+mod RenumberingLemmas

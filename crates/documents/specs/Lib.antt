@@ -1,2 +1,3 @@
 pub mod Documents
 pub mod Histories
+pub mod Renumbering

@@ -36,7 +36,7 @@ pub struct Document<P: PtrKey> {
 /// pointer's index and generation.
 #[derive(Drop)]
 pub struct Documents<P: PtrKey, T: Drop, A: ChainArenaTrait<P, Entry<T>> + Drop> {
-    lists: LinkedLists<P, T, A>,
+    pub(crate) lists: LinkedLists<P, T, A>,
 }
 
 impl<P: PtrKey, T: Drop, A: ChainArenaTrait<P, Entry<T>> + Drop> Model for Documents<P, T, A> {

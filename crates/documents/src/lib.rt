@@ -5,6 +5,8 @@
 #![tactic(auto)]
 
 mod documents;
+mod renumbering;
 
 pub use documents::{Document, Documents, calls_keep_paragraphs, calls_make_changes};
 pub use linked_lists::Entry;
+pub use renumbering::moved_document;

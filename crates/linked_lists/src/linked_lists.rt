@@ -23,6 +23,7 @@ use chain_traits::ChainArenaTrait;
 use chain_traits::walks::walk;
 use std::alloc::{AllocError, Global};
 use std::marker::{Model, PhantomData};
+use std::mem;
 
 /// Doubly linked lists in one arena. Each list has a handle and items.
 ///
@@ -64,23 +65,17 @@ impl<P: PtrKey, T: Drop, A: ChainArenaTrait<P, Entry<T>> + Drop> LinkedLists<P, 
         }
     }
 
-    /// Makes lists of the rings of an arena. Each has one head, whose pointer is the handle.
-    pub fn from_arena(arena: A) -> Self
+    /// Replaces the arena, whose rings are the lists, and returns the former one.
+    ///
+    /// Each link of the new arena has to be in a ring with one head, as those of the former one are.
+    /// So an arena can be taken out, for a call that lists do not have, and put back.
+    pub fn replace_arena(&mut self, arena: A) -> A
         requires { EachInList A.state A.interlinks arena }
-        ensures { result ≡ arena }
-    {
-        LinkedLists {
-            arena,
-            of: PhantomData,
-        }
-    }
-
-    /// Returns the arena. Its rings are the lists, each with its head.
-    pub fn into_arena(self) -> A
-        ensures arena { result ≡ self }
+        ensures new { self.new ≡ arena }
+        ensures former { result ≡ self.old }
         ensures lists { EachInList A.state A.interlinks result }
     {
-        self.arena
+        mem::replace(&mut self.arena, arena)
     }
 
     /// Returns the number of items and of lists, taken together: each list has a head.

@@ -1,0 +1,38 @@
+//! The trait of arenas of links that can be renumbered.
+
+ghost use Rattle.std.specs.Prelude.{◌≡◌, IfOk, OnErr};
+ghost use Rattle.chain_renumbering.specs.MoveTables.{new_key_of};
+ghost use Rattle.chain_renumbering.specs.Renumbering.{IsRenumbered};
+
+use crate::renumbering::{Renumbering, renumber};
+use arena_base::ArenaSlot;
+use arena_ptr::{GenKey, PtrKey, SlotStack};
+use chain_arena::{ChainArena, LinkNoGen};
+use chain_traits::ChainArenaTrait;
+use std::alloc::{AllocError, Global};
+
+/// An arena of links that can be renumbered.
+///
+/// Not in `triple_arena`, whose `compress_canonical` does not return the new pointers.
+pub trait RenumberChainArenaTrait<P: PtrKey, T: Drop>: ChainArenaTrait<P, T> {
+    /// Renumbers all links as `compress_canonical` does, and returns the new pointer of each.
+    ///
+    /// # Errors
+    ///
+    /// - `AllocError`: an allocation failed. The arena is unchanged.
+    fn renumber(&mut self, alloc: Global) -> Result<Renumbering<P>, AllocError>
+        ensures renumbered { IfOk result (λ moved. IsRenumbered P.Gen.first P.Gen.following
+            Self.view Self.entry Self.interlinks self.old self.new
+            (new_key_of P.key P.Gen.same moved)) }
+        ensures err { OnErr result (self.new ≡ self.old) };
+}
+
+impl<
+    P: PtrKey,
+    T: Drop,
+    S: SlotStack<Item = ArenaSlot<P, LinkNoGen<P, T>>>,
+> RenumberChainArenaTrait<P, T> for ChainArena<P, T, S> {
+    fn renumber(&mut self, alloc: Global) -> Result<Renumbering<P>, AllocError> {
+        renumber(self, alloc)
+    }
+}
