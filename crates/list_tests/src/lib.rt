@@ -1,6 +1,8 @@
-//! Tests of linked lists and of run queues.
+//! Tests of linked lists, run queues and documents.
 #![tactic(auto)]
 
+#[cfg(test)]
+mod documents;
 #[cfg(test)]
 mod queues;
 #[cfg(test)]

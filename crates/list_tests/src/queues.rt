@@ -159,11 +159,13 @@ fn is_changed<P: PtrKey, A: ChainArenaTrait<P, Entry<u32>> + Drop>(
     let p = pointer_at(&made.tasks, row.1);
     let q = pointer_at(&made.queues, position_of(row.2));
     match row.0 {
-        Op::Cancel => queues.is_task(p) && queues.cancel(p) == Some(row.2) && !queues.is_task(p),
+        Op::Cancel => queues.is_task(p)
+            && queues.cancel(p).allow() == Some(row.2)
+            && !queues.is_task(p),
         Op::Replace => queues.replace(p, row.2).is_some(),
         Op::Remove => {
             let removed = queues.remove_queue(pointer_at(&made.queues, row.1));
-            removed == Some(position_of(row.2))
+            removed.allow() == Some(position_of(row.2))
         }
         Op::Of => queues.is_queue(q) && is_it(queues.queue_of(p), q),
         _ => queues.reserve(row.1).is_ok() && queues.capacity() >= row.1,

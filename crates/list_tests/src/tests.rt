@@ -38,6 +38,11 @@ enum Op {
     RemoveList,
     // The items of the second list come behind those of the first.
     Append,
+    // The items from this one on, to the item of the first digit, are moved to the start or the end
+    // of the list, or behind the item, of the second digit.
+    RangeToFront,
+    RangeToBack,
+    RangeBehind,
     // The items from this one on come to a new list.
     Split,
     // The list of the item is this one.
@@ -97,6 +102,32 @@ const PARTS: [Row; 20] = [
     (Op::RemoveList, 0, 0, false, 9_94),
     (Op::Back, 0, 8, false, 9_94),
     (Op::RemoveList, 1, 0, true, 94),
+];
+
+const RANGES: [Row; 23] = [
+    (Op::New, 0, 0, true, 9),
+    (Op::Back, 0, 1, true, 91),
+    (Op::Back, 0, 2, true, 912),
+    (Op::Back, 0, 3, true, 9123),
+    (Op::Back, 0, 4, true, 91234),
+    (Op::New, 0, 0, true, 91234_9),
+    (Op::RangeToBack, 1, 2_1, true, 914_923),
+    (Op::RangeToBack, 1, 2_1, true, 914_923),
+    (Op::RangeToFront, 2, 1_0, false, 914_923),
+    (Op::RangeBehind, 1, 2_0, true, 91234_9),
+    (Op::RangeToFront, 2, 3_0, true, 93412_9),
+    (Op::RangeToFront, 2, 3_0, true, 93412_9),
+    (Op::RangeBehind, 3, 0_1, true, 93241_9),
+    (Op::RangeBehind, 2, 3_1, false, 93241_9),
+    (Op::RangeBehind, 2, 3_3, false, 93241_9),
+    (Op::RangeToBack, 1, 0_0, true, 93241_9),
+    (Op::RangeToBack, 2, 1_0, true, 94132_9),
+    (Op::RangeToBack, 3, 1_1, true, 9_94132),
+    (Op::RangeToFront, 0, 0_1, true, 9_91432),
+    (Op::RangeToBack, 0, 3_2, false, 9_91432),
+    (Op::RangeBehind, 0, 3_7, false, 9_91432),
+    (Op::Remove, 0, 1, true, 9_9432),
+    (Op::RangeToBack, 0, 0_0, false, 9_9432),
 ];
 
 // No ninth link is added, be it a head or an item.
@@ -252,6 +283,29 @@ fn is_moved<P: PtrKey, A: ChainArenaTrait<P, Entry<u32>> + Drop>(
     }
 }
 
+// Moves a range if it is one, and returns whether it succeeds.
+fn is_range_moved<P: PtrKey, A: ChainArenaTrait<P, Entry<u32>> + Drop>(
+    lists: &mut LinkedLists<P, u32, A>,
+    made: &Made<P>,
+    row: &Row,
+) -> bool {
+    let digits = usize::try_from(row.2).unwrap_or(0);
+    let first = pointer_at(&made.items, row.1);
+    let last = pointer_at(&made.items, digits / 10);
+    let to = match row.0 {
+        Op::RangeBehind => pointer_at(&made.items, digits % 10),
+        _ => pointer_at(&made.handles, digits % 10),
+    };
+    if !lists.is_range_without(first, last, to) {
+        return false;
+    }
+    match row.0 {
+        Op::RangeToFront => lists.move_range_to_front(first, last, to).is_some(),
+        Op::RangeToBack => lists.move_range_to_back(first, last, to).is_some(),
+        _ => lists.move_range_after(first, last, to).is_some(),
+    }
+}
+
 // Makes a call that neither adds nor moves, and returns whether it succeeds.
 fn is_changed<P: PtrKey, A: ChainArenaTrait<P, Entry<u32>> + Drop>(
     lists: &mut LinkedLists<P, u32, A>,
@@ -263,10 +317,10 @@ fn is_changed<P: PtrKey, A: ChainArenaTrait<P, Entry<u32>> + Drop>(
     match op {
         Op::Replace => lists.replace(p, value).is_some(),
         Op::Write => is_written(lists.get_mut(p), value),
-        Op::Remove => lists.remove(p) == Some(value),
+        Op::Remove => lists.remove(p).allow() == Some(value),
         Op::RemoveList => {
             let h = pointer_at(&made.handles, position);
-            lists.remove_list(h) == Some(usize::try_from(value).unwrap_or(0))
+            lists.remove_list(h).allow() == Some(usize::try_from(value).unwrap_or(0))
         }
         Op::Reserve => lists.reserve(position).is_ok() && lists.capacity() >= position,
         _ => match lists.list_of(p) {
@@ -298,6 +352,9 @@ fn is_done<P: PtrKey, A: ChainArenaTrait<P, Entry<u32>> + Drop>(
             appended(item_added(lists, &*made, row), &mut made.items)
         }
         Op::ToBack | Op::ToFront | Op::Behind | Op::Append => Ok(is_moved(lists, &*made, row)),
+        Op::RangeToFront | Op::RangeToBack | Op::RangeBehind => {
+            Ok(is_range_moved(lists, &*made, row))
+        }
         _ => Ok(is_changed(lists, &*made, row)),
     }
 }
@@ -344,7 +401,14 @@ fn first_wrong<P: PtrKey, A: ChainArenaTrait<P, Entry<u32>> + Drop>(
         }
     }
     lists.all_in_lists();
-    Ok(None)
+    let taken = lists.replace_arena(A::new(alloc));
+    let empty = lists.is_empty() && taken.len() > 0;
+    lists.replace_arena(taken);
+    let last = picture(&lists, alloc, &made.handles)?;
+    match rows.last() {
+        Some(row) if empty && last == row.4 => Ok(None),
+        _ => Ok(Some(rows.len())),
+    }
 }
 
 fn check<P: PtrKey, A: ChainArenaTrait<P, Entry<u32>> + Drop>(
@@ -368,13 +432,13 @@ fn over_stack<S: SlotStack<Item = Slot>>(rt: &impl Abort, alloc: Global, tables:
 
 #[test]
 fn lists_change_as_stated(rt: HostRuntime) {
-    over_stack::<HeapStack<Slot>>(&rt, rt.alloc(), &[&MOVES, &PARTS]);
-    over_stack::<ChunkStack<Slot>>(&rt, rt.alloc(), &[&MOVES, &PARTS]);
+    over_stack::<HeapStack<Slot>>(&rt, rt.alloc(), &[&MOVES, &PARTS, &RANGES]);
+    over_stack::<ChunkStack<Slot>>(&rt, rt.alloc(), &[&MOVES, &PARTS, &RANGES]);
 }
 
 #[test]
 fn each_growth_is_refused_once(rt: HostRuntime) {
-    over_stack::<FailingStack<HeapStack<Slot>>>(&rt, rt.alloc(), &[&MOVES, &PARTS]);
+    over_stack::<FailingStack<HeapStack<Slot>>>(&rt, rt.alloc(), &[&MOVES, &PARTS, &RANGES]);
 }
 
 #[test]

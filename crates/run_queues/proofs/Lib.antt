@@ -3,3 +3,4 @@ mod FairnessLemmas
 mod StepLemmas
 mod HistoryLemmas
 mod WakingLemmas
+mod KeptTaskLemmas

@@ -9,7 +9,7 @@ use Rattle.arena_traits.specs.Entries.{ArenaView, ArenaState}
 use Rattle.chain_lists.specs.Lists.{Item}
 use Rattle.chain_lists.specs.Sizes.{ReservesMore}
 use Rattle.linked_lists.specs.declared.entry.Entry.{Entry}
-use Rattle.linked_lists.specs.LinkedLists.{pointers_of, IsHandle, HasItem, IsItem, IsList, AllInLists, IsListStarted, GrowsAtEnd, IsItemAdded, ValueBecomes, LeavesList, IsListRemoved, IsItemMoved, IsAppended, AtEnd, CreatesList, PushesBack, MovesToBack, AppendsList, ReplacesItem, RemovesListItem, RemovesList}
+use Rattle.linked_lists.specs.LinkedLists.{pointers_of, IsHandle, HasItem, IsItem, IsList, IsInListOf, HasPlace, AllInLists, IsListStarted, GrowsAtEnd, IsItemAdded, ValueBecomes, LeavesList, IsListRemoved, IsItemMoved, IsAppended, AtEnd, CreatesList, PushesBack, MovesToBack, AppendsList, ReplacesItem, RemovesListItem, RemovesList}
 use Rattle.run_queues.specs.Turns.{Step, IsAmong, HasTurn, Leaves}
 use Rattle.run_queues.specs.RunQueues.{IsTurnTaken, IsOneWoken, TakesSteps, TakesTurn, WakesOne}
 
@@ -97,3 +97,27 @@ module _ {A Gen T : Type 0} {view : A → ArenaView Gen (Entry T)} {entry : A �
       → History old (gives_turn q x ∷ changes ++ gives_turn q x ∷ []) new
       → IsList state interlinks old q tasks → IsAmong (pointers_of tasks) y → x ≢ y
       → IsAmong changes (gives_turn q y) ⊎ OneTakesAway changes q y
+
+  -- The change ends the task `p`: it is canceled, or removed with its queue.
+  abbrev pub Ends : A → Change Gen → ℕ × Gen → Type 0
+  Ends old (creates q) p = ⊥
+  Ends old (spawns q r) p = ⊥
+  Ends old (gives_turn q r) p = ⊥
+  Ends old (moves r q) p = ⊥
+  Ends old (wakes_one l q r) p = ⊥
+  Ends old (wakes_all l q) p = ⊥
+  Ends old (replaces r) p = ⊥
+  Ends old (cancels r) p = r ≡ p
+  Ends old (removes q) p = IsInListOf state interlinks old q p
+  Ends old grows p = ⊥
+
+  -- One of the changes ends `p`.
+  abbrev pub OneEnds : (old : A) (changes : List (Change Gen)) (new : A) → History old changes new → ℕ × Gen → Type 0
+  OneEnds old [] new history p = ⊥
+  OneEnds old (change ∷ changes) new history p = Ends old change p ⊎ OneEnds history.1 changes new history.3 p
+
+  -- After any calls, each task that was there is in exactly one queue, at one place, unless a call
+  -- ended it.
+  abbrev pub CallsKeepTasks : Type 0
+  CallsKeepTasks = (old new : A) (changes : List (Change Gen)) (p : ℕ × Gen) (history : History old changes new) → AllInLists state interlinks new → IsItem (entry old) p
+      → OneEnds old changes new history p ⊎ ((t : T) × HasPlace state interlinks new p t)

@@ -8,5 +8,6 @@ mod run_queues;
 
 pub use linked_lists::Entry;
 pub use run_queues::{
-    RunQueues, calls_are_fair, calls_make_changes, calls_take_steps, turns_are_fair,
+    RunQueues, calls_are_fair, calls_keep_tasks, calls_make_changes, calls_take_steps,
+    turns_are_fair,
 };

@@ -5,7 +5,7 @@ ghost use Rattle.arena_traits.specs.Entries.{IsNew, count};
 ghost use Rattle.chain_laws.specs.declared.insert_kind.InsertKind.TheVariants as kinds;
 ghost use Rattle.chain_lists.specs.Sizes.{ReservesMore, CountsEntries, ReportsCapacity};
 ghost use Rattle.linked_lists.specs.LinkedLists.{AllInLists, IsHandle, IsItem, ReadsValue, ReadsFirst, ReadsHandle, ListsItems, CreatesList, PushesBack, RemovesListItem, ReplacesItem, MovesToBack, AppendsList, RemovesList};
-ghost use Rattle.run_queues.specs.Histories.{CallsMakeChanges, CallsTakeSteps, CallsAreFair};
+ghost use Rattle.run_queues.specs.Histories.{CallsMakeChanges, CallsTakeSteps, CallsAreFair, CallsKeepTasks};
 ghost use Rattle.run_queues.specs.RunQueues.{TakesTurn, WakesOne};
 ghost use Rattle.run_queues.specs.Turns.{TasksStayAhead, TurnsAreFair};
 
@@ -312,4 +312,12 @@ pub fn calls_take_steps<P: PtrKey, T: Drop, A: ChainArenaTrait<P, Entry<T>>>()
 /// This follows from the contracts of the calls. The function has no effect.
 pub fn calls_are_fair<P: PtrKey, T: Drop, A: ChainArenaTrait<P, Entry<T>>>()
     ensures { CallsAreFair A.state A.interlinks ⟦<P as AnyPointer>⟧.pointers }
+{}
+
+/// States that no task is lost: after any list of calls, each task that was there is in exactly one
+/// queue, at one place, unless a call ended it, alone or with its queue.
+///
+/// This follows from the contracts of the calls. The function has no effect.
+pub fn calls_keep_tasks<P: PtrKey, T: Drop, A: ChainArenaTrait<P, Entry<T>>>()
+    ensures { CallsKeepTasks A.state A.interlinks ⟦<P as AnyPointer>⟧.pointers }
 {}
