@@ -1,36 +1,35 @@
 //! Functions on a concrete arena type, `ChainArena<ToolPtr, u32>`, as explained in
 //! `docs/PROOF_GUIDE.md`.
 
-ghost use Rattle.std.specs.Prelude.{◌≡◌, ◌↔◌, None, Some, IsSome, IfSome, OnErr};
+ghost use Rattle.std.specs.Prelude.{◌≡◌, None, Some, IfSome, OnSome, IfNone, IfOk, OnErr};
+ghost use Rattle.arena_core.specs.Invalidation.{value_within};
 ghost use Rattle.arena_traits.specs.Arena.{IsValid};
-ghost use Rattle.arena_traits.specs.Growth.{RefusesOneMore};
+ghost use Rattle.arena_traits.specs.CallOutcomes.{RemovesEntry};
 ghost use Rattle.arena_ptr.specs.ToolPtr.{key_of};
 ghost use Rattle.chain_laws.specs.Chains.{next_of};
+ghost use Rattle.chain_laws.specs.declared.insert_kind.InsertKind.TheVariants.{NextTo};
 ghost use Rattle.chain_laws.specs.Neighbors.{AreNeighbors};
 ghost use Rattle.chain_laws.specs.Removals.{with_removal};
-ghost use Rattle.chain_links.specs.Insertions.{IsInsertionResult};
-ghost use Rattle.chain_links.specs.ChainArena.{entry, value_view, link_map};
+ghost use Rattle.chain_links.specs.Insertions.{InsertsLink};
+ghost use Rattle.chain_links.specs.ChainArena.{entry, value_state, link_map};
 
 use arena_base::ArenaTrait;
-use arena_ptr::{ChainInsertionError, InvalidationResult, ToolPtr};
+use arena_ptr::{AnyPointer, ChainInsertionError, InvalidationResult, ToolPtr};
 use chain_arena::{ChainArena, ChainArenaTrait, LinkInsertKind};
 
 /// Removes a link and returns its value.
 ///
-/// Returns `None` and changes nothing if `p` is not valid.
-pub fn remove_value(arena: &mut ChainArena<ToolPtr, u32>, p: ToolPtr) -> Option<u32>
-    ensures some { IsSome result ↔ IsValid (entry arena.old) (key_of p) }
-    ensures value { IfSome result (λ t. entry arena.old (key_of p).0 ≡ Some ((key_of p).1, t)) }
-    ensures links { IsValid (entry arena.old) (key_of p)
-        → link_map arena.new ≡ with_removal (link_map arena.old) (key_of p).0 }
-    ensures none { ¬ IsValid (entry arena.old) (key_of p)
-        → (result ≡ None) × (arena.new ≡ arena.old) }
+/// The counter is incremented. If that wraps to two, the value is returned in
+/// `GenerationOverflow`: pointers that were removed long ago may be valid again. Returns
+/// `InvalidPtr` and changes nothing if `p` is not valid.
+pub fn remove_value(arena: &mut ChainArena<ToolPtr, u32>, p: ToolPtr) -> InvalidationResult<u32>
+    ensures outcome { RemovesEntry value_state ⟦<ToolPtr as AnyPointer>⟧.pointers arena.old p
+        result arena.new }
+    ensures links { OnSome (value_within result)
+        (link_map arena.new ≡ with_removal (link_map arena.old) (key_of p).0) }
+    ensures invalid { IfNone (value_within result) (arena.new ≡ arena.old) }
 {
-    match arena.remove(p) {
-        InvalidationResult::Success(t) => Some(t),
-        InvalidationResult::GenerationOverflow(t) => Some(t),
-        InvalidationResult::InvalidPtr => None,
-    }
+    arena.remove(p)
 }
 
 /// Inserts a link directly after `p` and returns its pointer.
@@ -40,7 +39,8 @@ pub fn remove_value(arena: &mut ChainArena<ToolPtr, u32>, p: ToolPtr) -> Option<
 /// # Errors
 ///
 /// - `FailedLinkRequirement`: `p` is not valid.
-/// - `BeyondMaxCapacity`, `AllocError`: the arena is full and cannot grow.
+/// - `BeyondMaxCapacity`: growth would exceed the maximum.
+/// - `AllocError`: growth would exceed the greatest index, or an allocation failed.
 ///
 /// On error, nothing changes.
 pub fn insert_behind(
@@ -48,9 +48,10 @@ pub fn insert_behind(
     p: ToolPtr,
     t: u32,
 ) -> Result<ToolPtr, ChainInsertionError>
-    ensures outcome { IsInsertionResult (IsValid (entry arena.old) (key_of p))
-        (RefusesOneMore (value_view arena.old))
-        (λ q. AreNeighbors (link_map arena.new) (key_of p).0 (key_of q).0) result }
+    ensures outcome { InsertsLink value_state link_map ⟦<ToolPtr as AnyPointer>⟧.pointers
+        arena.old (NextTo p) t result arena.new }
+    ensures behind { IfOk result (λ q.
+        AreNeighbors (link_map arena.new) (key_of p).0 (key_of q).0) }
     ensures err { OnErr result (arena.new ≡ arena.old) }
 {
     arena.insert_reallocating(LinkInsertKind::NextTo(p), t)

@@ -3,18 +3,20 @@
 //! `docs/PROOF_GUIDE.md` explains them. Only the last two, `after` and `set_owners`, need a proof
 //! written by hand.
 
-ghost use Rattle.std.specs.Prelude.{◌≡◌, ◌↔◌, ℕ, List, None, Some, IsSome, IfSome, OnSome, IfNone, IsTrue, IsFalse, IfOk, OnErr};
+ghost use Rattle.std.specs.Prelude.{◌≡◌, ◌↔◌, ℕ, List, None, Some, IsSome, IfSome, IfNone, IsTrue, IsFalse, IfOk, OnErr};
 ghost use Rattle.std.specs.Option.{option_map};
 ghost use Rattle.chain_laws.specs.Chains.{linear, cyclic, IsChain, first_or, last_or, next_of};
 ghost use Rattle.chain_laws.specs.declared.insert_kind.InsertKind.TheVariants.{NextTo};
 ghost use Rattle.chain_laws.specs.Neighbors.{AreNeighbors};
+ghost use Rattle.arena_core.specs.Invalidation.{value_within};
 ghost use Rattle.arena_traits.specs.Arena.{IsValid};
+ghost use Rattle.arena_traits.specs.CallOutcomes.{ReportsOverflow};
 ghost use Rattle.chain_links.specs.CallEffects.{IsConnected, IsRemoved};
 ghost use Rattle.chain_links.specs.ChainArena.{CanConnect};
 ghost use Rattle.chain_links.specs.Insertions.{InsertsLink};
-ghost use Rattle.chain_examples.specs.Owners.{GivesOwners};
+ghost use Rattle.chain_examples.specs.Owners.{SetsOwners};
 
-use arena_ptr::{AnyPointer, ChainInsertionError, GenKey, InxKey, PtrKey};
+use arena_ptr::{AnyPointer, ChainInsertionError, GenKey, InvalidationResult, InxKey, PtrKey};
 use chain_links::LinkInsertKind;
 use chain_traits::ChainArenaTrait;
 use chain_traits::walks::for_each_in_chain;
@@ -35,23 +37,29 @@ pub fn connect_pair<P: PtrKey, T: Drop, A: ChainArenaTrait<P, T>>(arena: &mut A,
     }
 }
 
-/// Removes the link at index `i` and returns the index of the link after it.
+/// Removes the link at index `i` and returns the index of the link after it, if there is one.
 ///
-/// Returns `None` if no link came after it, or if there is no link at `i`. In the second case the
-/// arena is unchanged.
+/// The counter is incremented. If that wraps to two, the index is returned in
+/// `GenerationOverflow`: pointers that were removed long ago may be valid again. Returns
+/// `InvalidPtr` and changes nothing if there is no link at `i`.
 pub fn remove_and_step<P: PtrKey, T: Drop, A: ChainArenaTrait<P, T>>(
     arena: &mut A,
     i: P::Inx,
-) -> Option<P::Inx>
-    ensures removed { IsSome (A.entry arena.old (P.Inx.number i))
-        → (option_map P.Inx.number result ≡ next_of (A.interlinks arena.old) (P.Inx.number i))
-        × IsRemoved A.state A.interlinks arena.old arena.new P.Gen.following (P.Inx.number i) }
-    ensures none { A.entry arena.old (P.Inx.number i) ≡ None
-        → (result ≡ None) × (arena.new ≡ arena.old) }
+) -> InvalidationResult<Option<P::Inx>>
+    ensures outcome { ReportsOverflow P.Gen.wraps (A.view arena.old).counter
+        (A.entry arena.old (P.Inx.number i) ≡ None)
+        (λ next. IsSome (A.entry arena.old (P.Inx.number i))
+        × (option_map P.Inx.number next ≡ next_of (A.interlinks arena.old) (P.Inx.number i))
+        × IsRemoved A.state A.interlinks arena.old arena.new P.Gen.following (P.Inx.number i))
+        result }
+    ensures invalid { IfNone (value_within result) (arena.new ≡ arena.old) }
 {
-    match arena.remove_inx_link_no_gen(i).allow() {
-        Some((_, link)) => link.next(),
-        None => None,
+    match arena.remove_inx_link_no_gen(i) {
+        InvalidationResult::Success((_, link)) => InvalidationResult::Success(link.next()),
+        InvalidationResult::GenerationOverflow((_, link)) => {
+            InvalidationResult::GenerationOverflow(link.next())
+        }
+        InvalidationResult::InvalidPtr => InvalidationResult::InvalidPtr,
     }
 }
 
@@ -116,16 +124,13 @@ pub fn after<P: PtrKey, T: Drop, A: ChainArenaTrait<P, T>>(arena: &A, p: P) -> O
 
 /// Gives each link of the chain of `p` another owner, which is the second part of its value.
 ///
-/// Returns `None` if `p` is not valid; the arena is unchanged then.
+/// Returns `None` and changes nothing if `p` is not valid.
 pub fn set_owners<P: PtrKey, K: Drop, A: ChainArenaTrait<P, (K, P)>>(
     arena: &mut A,
     p: P,
     owner: P,
 ) -> Option<()>
-    ensures owners { OnSome result (GivesOwners (A.entry arena.old) (A.entry arena.new)
-        (A.interlinks arena.old) (P.key p).0 owner) }
-    ensures links { A.interlinks arena.new ≡ A.interlinks arena.old }
-    ensures none { IfNone result (arena.new ≡ arena.old) }
+    ensures { SetsOwners A.view A.entry A.interlinks arena.old (P.key p) owner result arena.new }
 {
     for_each_in_chain(arena, p, |_q: P, value: &mut (K, P)| value.1 = owner)
 }
