@@ -57,10 +57,6 @@ MEANINGS = {
         "InsertsItemBefore": "outcome of `insert_before`",
         "IsRing": "a list of items is a cyclic chain",
     },
-    "crates/chain_examples/specs/Texts.antt": {
-        "ReadsPrev": "outcome of `prev`",
-        "SplitsBefore": "outcome of `split_before`",
-    },
     "crates/surject_arena/specs/SetCalls.antt": {
         "CountsKeys": "outcome of `len_key_set`",
         "ReadsValue": "outcome of `get_val`",

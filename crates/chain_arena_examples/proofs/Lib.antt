@@ -1,6 +1,0 @@
-mod DocumentRenamingLemmas
-mod BookmarkLemmas
-mod MappedListLemmas
-mod PointerPairLemmas
-mod RenumberingLemmas
-mod MoveTableLemmas

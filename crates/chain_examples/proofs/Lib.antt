@@ -1,5 +1,1 @@
-mod ItemMoveLemmas
-mod TaskLemmas
-mod DocumentLemmas
-mod QueueOrderLemmas
 mod OwnerLemmas

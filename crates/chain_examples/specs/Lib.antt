@@ -1,3 +1,1 @@
-pub mod Texts
-pub mod QueueOrder
 pub mod Owners

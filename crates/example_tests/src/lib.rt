@@ -1,4 +1,4 @@
-//! Tests of `chain_examples` and `chain_arena_examples`.
+//! Tests of the functions that the guide to proofs explains, and of renumbering.
 #![tactic(auto)]
 
 #[cfg(test)]

@@ -2,11 +2,9 @@
 
 ghost use Rattle.std.specs.Borrow.{ffalse};
 
+use super::Named;
 use super::own_calls::OwnCalls;
-use super::{Named, number_of};
-use arena_base::ArenaTrait;
-use chain_links::LinkInsertKind;
-use chain_traits::ChainArenaTrait;
+use super::renumbering::are_inserted;
 use std::alloc::{AllocError, Allocator, Global};
 
 /// An allocator that refuses every request.
@@ -21,27 +19,6 @@ unsafe impl Allocator for NoMemory {
     }
 
     unsafe fn deallocate(&self, _ptr: *mut u8, _size: usize, _align: usize) {}
-}
-
-/// Inserts a link, and returns the number of its pointer.
-fn insert<P: Named, A: ChainArenaTrait<P, u32>>(
-    arena: &mut A,
-    kind: LinkInsertKind<P>,
-    t: u32,
-) -> u32 {
-    number_of(arena.insert_reallocating(kind, t).ok())
-}
-
-/// Makes a chain of three links, with the last in a freed slot after the first, and a lone link.
-/// Returns whether each is inserted.
-fn are_inserted<P: Named, A: ChainArenaTrait<P, u32>>(arena: &mut A) -> bool {
-    insert(arena, LinkInsertKind::Disconnected, 1) == 0x12
-        && insert(arena, LinkInsertKind::ChainEnd(P::at(0x12)), 2) == 0x22
-        && insert(arena, LinkInsertKind::ChainEnd(P::at(0x22)), 3) == 0x32
-        && arena.remove(P::at(0x22)).allow() == Some(2)
-        && insert(arena, LinkInsertKind::ChainEnd(P::at(0x32)), 4) == 0x23
-        && insert(arena, LinkInsertKind::Disconnected, 5) == 0x43
-        && arena.len() == 4
 }
 
 /// Returns whether the replies to calls and the moves of a compression are refused, and nothing

@@ -1,19 +1,19 @@
 //! The calls of a chain arena that no trait has.
 
-use super::documents::Texts;
 use super::no_memory::NoMemory;
+use super::renumbering::MARKS;
 use super::{Named, Slot, number_of};
 use arena_ptr::{SlotStack, ToolPtr};
 use chain_arena::ChainArena;
 use chain_arena::calls::{Call, run_calls};
-use chain_arena_examples::renumber_documents;
+use chain_renumbering::{Renumbering, renumber};
 use chain_traits::ChainArenaTrait;
 use std::alloc::Global;
 
 /// The own calls of a chain arena, so that only its implementation names one.
 pub(super) trait OwnCalls<P: Named>: ChainArenaTrait<P, u32> + Drop {
-    /// Renumbers texts with seven bookmarks, and returns what these are then.
-    fn renumber(texts: &mut Texts<P, Self>, alloc: Global) -> u64;
+    /// Renumbers the links, and returns the new bookmarks, or `None` if it is refused.
+    fn renumber(&mut self, alloc: Global) -> Option<[u32; 7]>;
 
     /// Returns whether the replies to calls are refused.
     fn replies_are_refused(&mut self, alloc: Global) -> bool;
@@ -26,10 +26,11 @@ pub(super) trait OwnCalls<P: Named>: ChainArenaTrait<P, u32> + Drop {
 }
 
 impl<S: SlotStack<Item = Slot>> OwnCalls<ToolPtr> for ChainArena<ToolPtr, u32, S> {
-    fn renumber(texts: &mut Texts<ToolPtr, Self>, alloc: Global) -> u64 {
-        let mut marks = bookmarks();
-        let _ = renumber_documents(texts, alloc, &mut marks);
-        numbers(&marks)
+    fn renumber(&mut self, alloc: Global) -> Option<[u32; 7]> {
+        match renumber(self, alloc) {
+            Ok(moved) => Some(new_marks(&moved)),
+            Err(_) => None,
+        }
     }
 
     fn replies_are_refused(&mut self, alloc: Global) -> bool {
@@ -53,23 +54,11 @@ impl<S: SlotStack<Item = Slot>> OwnCalls<ToolPtr> for ChainArena<ToolPtr, u32, S
     }
 }
 
-fn bookmarks() -> [Option<ToolPtr>; 7] {
-    [
-        Some(ToolPtr::at(0x52)),
-        Some(ToolPtr::at(0x12)),
-        Some(ToolPtr::at(0x42)),
-        None,
-        Some(ToolPtr::at(0x22)),
-        Some(ToolPtr::at(0x13)),
-        Some(ToolPtr::at(0x32)),
-    ]
-}
-
-// Returns the numbers of bookmarks, in two digits each.
-fn numbers(marks: &[Option<ToolPtr>]) -> u64 {
-    let mut all = 0;
-    for mark in marks {
-        all = u64::wrapping_mul(all, 256).wrapping_add(u64::from(number_of(*mark)));
+// Returns the new pointers of the bookmarks.
+fn new_marks<P: Named>(moved: &Renumbering<P>) -> [u32; 7] {
+    let mut marks = MARKS;
+    for mark in marks.iter_mut() {
+        *mark = number_of(moved.new_pointer(P::at(*mark)));
     }
-    all
+    marks
 }

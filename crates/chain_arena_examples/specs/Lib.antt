@@ -1,2 +1,0 @@
-pub mod Renumbering
-pub mod MoveTables

@@ -1,5 +1,0 @@
--- The arena reads the paragraph.
-use Rattle.chain_examples.proofs.documents.Documents.get.Goals as goal
-
-pub returns : goal.returns
-returns g c = rw (← c.self.view_is) (record { some = c.get.ensures.some; value = c.get.ensures.value })

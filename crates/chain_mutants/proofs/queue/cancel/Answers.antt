@@ -1,6 +1,0 @@
--- The forwarded call's contract suffices, so the search is small, and a mutant fails it soon.
-use Rattle.std.proofs.Common.{rules}
-use Rattle.chain_mutants.proofs.queue.cancel.Goals as goal
-
-pub returns : goal.returns
-returns g c = search rules fits 100

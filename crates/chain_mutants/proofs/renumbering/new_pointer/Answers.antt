@@ -1,0 +1,6 @@
+-- The forwarded call's contract suffices, so the search is small, and a mutant fails it soon.
+use Rattle.std.proofs.Common.{rules}
+use Rattle.chain_mutants.proofs.renumbering.new_pointer.Goals as goal
+
+pub returns : goal.returns
+returns g c = search rules fits 100
