@@ -1,7 +1,7 @@
 // Forwarding wrappers of calls of `RunQueues`.
 ghost use Rattle.linked_lists.specs.LinkedLists.{PushesBack, RemovesListItem};
 
-use arena_ptr::{AnyPointer, ChainInsertionError, InxKey, PtrKey};
+use arena_ptr::{AnyPointer, ChainInsertionError, InvalidationResult, InxKey, PtrKey};
 use chain_traits::ChainArenaTrait;
 use run_queues::{Entry, RunQueues};
 
@@ -21,7 +21,7 @@ pub fn spawn<P: PtrKey, T: Drop, A: ChainArenaTrait<P, Entry<T>> + Drop>(
 pub fn cancel<P: PtrKey, T: Drop, A: ChainArenaTrait<P, Entry<T>> + Drop>(
     queues: &mut RunQueues<P, T, A>,
     task: P,
-) -> Option<T>
+) -> InvalidationResult<T>
     ensures { RemovesListItem A.state A.interlinks ⟦<P as AnyPointer>⟧.pointers queues.old task
         result queues.new }
 {
