@@ -4,6 +4,8 @@
 #[cfg(test)]
 mod documents;
 #[cfg(test)]
+mod play_list;
+#[cfg(test)]
 mod queues;
 #[cfg(test)]
 mod tests;
