@@ -1,0 +1,503 @@
+//! An editor of documents, whose paragraphs are in one arena of links.
+
+ghost use Rattle.std.specs.Prelude.{◌≡◌, ◌+◌, IfNone, IfOk, OnErr, OnOk, vec_len};
+ghost use Rattle.outline.specs.Changes.{IsUnchangedIfRefused};
+
+use crate::command_error::CommandError;
+use crate::line::Place;
+use crate::refusal::Refusal;
+use crate::undo::{Change, Origin};
+use arena_ptr::PtrKey;
+use chain_traits::ChainArenaTrait;
+use documents::{Document, Documents, Entry};
+use std::alloc::{AllocError, Global};
+use std::collections::HashMap;
+
+/// A paragraph of a document.
+#[derive(Drop)]
+pub struct Paragraph {
+    pub number: usize,
+    pub text: String,
+}
+
+/// A document and its name.
+#[derive(Drop)]
+pub struct Title<P: PtrKey> {
+    pub name: String,
+    pub handle: Document<P>,
+}
+
+/// A paragraph that was inserted.
+#[derive(Clone, Copy)]
+pub struct Numbered<P: PtrKey> {
+    pub pointer: P,
+    pub is_deleted: bool,
+}
+
+/// A destination of paragraphs.
+#[derive(Clone, Copy)]
+pub enum Target<P: PtrKey> {
+    /// Directly after a paragraph.
+    After(P),
+    /// At the start of a document.
+    First(Document<P>),
+    /// At the end of a document.
+    Last(Document<P>),
+}
+
+/// An editor over any arena of links.
+///
+/// Paragraphs and documents have numbers in the order of creation, paragraphs from 1. All pointers
+/// are in `paragraphs`, in `titles` and in `deleted`, which is the hidden document of deleted
+/// paragraphs. Bookmarks and changes have numbers.
+#[derive(Drop)]
+pub struct Editor<P: PtrKey, A: ChainArenaTrait<P, Entry<Paragraph>> + Drop> {
+    pub outline: Documents<P, Paragraph, A>,
+    pub deleted: Document<P>,
+    pub titles: Vec<Title<P>>,
+    pub paragraphs: Vec<Numbered<P>>,
+    pub names: HashMap<String, usize>,
+    pub bookmarks: HashMap<String, usize>,
+    pub changes: Vec<Change>,
+    pub alloc: Global,
+}
+
+impl<P: PtrKey, A: ChainArenaTrait<P, Entry<Paragraph>> + Drop> Editor<P, A> {
+    /// Creates an editor without documents.
+    ///
+    /// # Errors
+    ///
+    /// - `AllocError`: an allocation failed.
+    pub fn new(alloc: Global) -> Result<Self, AllocError> {
+        let mut outline = Documents::new(alloc);
+        match outline.new_document() {
+            Ok(deleted) => Ok(Editor {
+                outline,
+                deleted,
+                titles: Vec::new(alloc),
+                paragraphs: Vec::new(alloc),
+                names: HashMap::new(alloc),
+                bookmarks: HashMap::new(alloc),
+                changes: Vec::new(alloc),
+                alloc,
+            }),
+            Err(_) => Err(AllocError),
+        }
+    }
+
+    /// Returns the handle of a document.
+    ///
+    /// # Errors
+    ///
+    /// - `UnknownDocument`: no document has the name.
+    pub fn document(&self, name: &str) -> Result<Document<P>, Refusal> {
+        match self.names.get(name) {
+            Some(number) => match self.titles.get(*number) {
+                Some(title) => Ok(title.handle),
+                None => Err(Refusal::UnknownDocument),
+            },
+            None => Err(Refusal::UnknownDocument),
+        }
+    }
+
+    /// Returns the pointer of a paragraph.
+    ///
+    /// # Errors
+    ///
+    /// - `UnknownParagraph`: no paragraph has the number.
+    /// - `DeletedParagraph`: the paragraph was deleted.
+    pub fn paragraph(&self, number: usize) -> Result<P, Refusal> {
+        let Some(index) = number.checked_sub(1) else {
+            return Err(Refusal::UnknownParagraph);
+        };
+        match self.paragraphs.get(index) {
+            Some(numbered) if numbered.is_deleted => Err(Refusal::DeletedParagraph),
+            Some(numbered) => Ok(numbered.pointer),
+            None => Err(Refusal::UnknownParagraph),
+        }
+    }
+
+    /// Returns the number of the document of a paragraph, or `None` if the paragraph is deleted.
+    pub fn document_number(&self, p: P) -> Option<usize> {
+        let document = self.outline.document_of(p)?;
+        self.titles
+            .iter()
+            .position(|title| title.handle.head.is_same(document.head))
+    }
+
+    /// Returns where a paragraph is.
+    ///
+    /// # Errors
+    ///
+    /// - `UnknownParagraph`: the paragraph is in no document that has a name.
+    fn origin(&self, p: P) -> Result<Origin, Refusal> {
+        match self.outline.prev(p) {
+            Some(q) => match self.outline.get(q) {
+                Some(paragraph) => Ok(Origin::After(paragraph.number)),
+                None => Err(Refusal::UnknownParagraph),
+            },
+            None => match self.document_number(p) {
+                Some(number) => Ok(Origin::First(number)),
+                None => Err(Refusal::UnknownParagraph),
+            },
+        }
+    }
+
+    /// Creates an empty document.
+    ///
+    /// # Errors
+    ///
+    /// - `NameInUse`: a document has the name.
+    /// - `Memory`: an allocation failed.
+    pub fn create(&mut self, name: &str) -> Result<(), CommandError>
+        ensures refused { IsUnchangedIfRefused result self.old self.new }
+        ensures recorded { OnOk result (vec_len self.new.changes ≡ vec_len self.old.changes + 1) }
+    {
+        self.refuse_known(name)?;
+        self.changes.reserve(1)?;
+        let Ok(handle) = self.outline.new_document() else {
+            return Err(CommandError::Memory);
+        };
+        self.push_title(name, handle)?;
+        self.changes.push(Change::Document)?;
+        Ok(())
+    }
+
+    /// Tests a name for a new document.
+    ///
+    /// # Errors
+    ///
+    /// - `NameInUse`: a document has the name.
+    fn refuse_known(&self, name: &str) -> Result<(), Refusal> {
+        if self.names.contains_key(name) {
+            return Err(Refusal::NameInUse);
+        }
+        Ok(())
+    }
+
+    /// Gives a name to a new document.
+    fn push_title(&mut self, name: &str, handle: Document<P>) -> Result<(), AllocError>
+        ensures { self.new.changes ≡ self.old.changes }
+    {
+        let key = String::from_str(self.alloc, name)?;
+        let name = String::from_str(self.alloc, name)?;
+        self.names.insert(key, self.titles.len())?;
+        self.titles.push(Title { name, handle })?;
+        Ok(())
+    }
+
+    /// Inserts a paragraph at the end of a document and returns its number.
+    ///
+    /// # Errors
+    ///
+    /// - `UnknownDocument`: no document has the name.
+    /// - `Memory`: an allocation failed.
+    pub fn add(&mut self, name: &str, text: &str) -> Result<usize, CommandError>
+        ensures refused { IsUnchangedIfRefused result self.old self.new }
+        ensures recorded { OnOk result (vec_len self.new.changes ≡ vec_len self.old.changes + 1) }
+        ensures number { IfOk result (λ n. n ≡ vec_len self.old.paragraphs + 1) }
+    {
+        let document = self.document(name)?;
+        let paragraph = self.new_paragraph(text)?;
+        match self.outline.push_back(document, paragraph) {
+            Ok(p) => Ok(self.push_paragraph(p)?),
+            Err(_) => Err(CommandError::Memory),
+        }
+    }
+
+    /// Inserts a paragraph directly after another one and returns its number.
+    ///
+    /// # Errors
+    ///
+    /// - `UnknownParagraph`, `DeletedParagraph`: the other one is not in a document.
+    /// - `Memory`: an allocation failed.
+    pub fn insert_after(&mut self, number: usize, text: &str) -> Result<usize, CommandError>
+        ensures refused { IsUnchangedIfRefused result self.old self.new }
+        ensures recorded { OnOk result (vec_len self.new.changes ≡ vec_len self.old.changes + 1) }
+        ensures number { IfOk result (λ n. n ≡ vec_len self.old.paragraphs + 1) }
+    {
+        let p = self.paragraph(number)?;
+        let paragraph = self.new_paragraph(text)?;
+        match self.outline.insert_after(p, paragraph) {
+            Ok(p) => Ok(self.push_paragraph(p)?),
+            Err(_) => Err(CommandError::Memory),
+        }
+    }
+
+    /// Inserts a paragraph directly before another one and returns its number.
+    ///
+    /// # Errors
+    ///
+    /// - `UnknownParagraph`, `DeletedParagraph`: the other one is not in a document.
+    /// - `Memory`: an allocation failed.
+    pub fn insert_before(&mut self, number: usize, text: &str) -> Result<usize, CommandError>
+        ensures refused { IsUnchangedIfRefused result self.old self.new }
+        ensures recorded { OnOk result (vec_len self.new.changes ≡ vec_len self.old.changes + 1) }
+        ensures number { IfOk result (λ n. n ≡ vec_len self.old.paragraphs + 1) }
+    {
+        let p = self.paragraph(number)?;
+        let paragraph = self.new_paragraph(text)?;
+        match self.outline.insert_before(p, paragraph) {
+            Ok(p) => Ok(self.push_paragraph(p)?),
+            Err(_) => Err(CommandError::Memory),
+        }
+    }
+
+    /// Returns a paragraph with the next number.
+    fn new_paragraph(&self, text: &str) -> Result<Paragraph, AllocError> {
+        Ok(Paragraph {
+            number: self.paragraphs.len().saturating_add(1),
+            text: String::from_str(self.alloc, text)?,
+        })
+    }
+
+    /// Gives the next number to a paragraph that was inserted, and returns the number.
+    fn push_paragraph(&mut self, pointer: P) -> Result<usize, AllocError>
+        ensures recorded { OnOk result (vec_len self.new.changes ≡ vec_len self.old.changes + 1) }
+        ensures number { IfOk result (λ n. n ≡ vec_len self.old.paragraphs + 1) }
+    {
+        self.paragraphs.push(Numbered {
+            pointer,
+            is_deleted: false,
+        })?;
+        self.changes.push(Change::Insertion)?;
+        Ok(self.paragraphs.len())
+    }
+
+    /// Gives a paragraph another text.
+    ///
+    /// # Errors
+    ///
+    /// - `UnknownParagraph`, `DeletedParagraph`: the paragraph is not in a document.
+    /// - `Memory`: an allocation failed.
+    pub fn edit(&mut self, number: usize, text: &str) -> Result<(), CommandError>
+        ensures refused { IsUnchangedIfRefused result self.old self.new }
+        ensures recorded { OnOk result (vec_len self.new.changes ≡ vec_len self.old.changes + 1) }
+    {
+        let p = self.paragraph(number)?;
+        let text = String::from_str(self.alloc, text)?;
+        match self.outline.replace(p, Paragraph { number, text }) {
+            Some(former) => {
+                self.changes.push(Change::Edit(number, former.text))?;
+                Ok(())
+            }
+            None => Err(CommandError::Refused(Refusal::UnknownParagraph)),
+        }
+    }
+
+    /// Deletes a paragraph.
+    ///
+    /// # Errors
+    ///
+    /// - `UnknownParagraph`, `DeletedParagraph`: the paragraph is not in a document.
+    /// - `Memory`: an allocation failed.
+    pub fn delete(&mut self, number: usize) -> Result<(), CommandError>
+        ensures refused { IsUnchangedIfRefused result self.old self.new }
+        ensures recorded { OnOk result (vec_len self.new.changes ≡ vec_len self.old.changes + 1) }
+    {
+        let p = self.paragraph(number)?;
+        let origin = self.origin(p)?;
+        if self.outline.move_to_back(p, self.deleted).is_none() {
+            return Err(CommandError::Refused(Refusal::UnknownParagraph));
+        }
+        self.set_deleted(number, true);
+        self.changes.push(Change::Deletion(number, origin))?;
+        Ok(())
+    }
+
+    /// Records whether a paragraph is deleted.
+    pub fn set_deleted(&mut self, number: usize, is_deleted: bool)
+        ensures { self.new.changes ≡ self.old.changes }
+    {
+        if let Some(numbered) = self.paragraphs.get_mut(number.saturating_sub(1)) {
+            numbered.is_deleted = is_deleted;
+        }
+    }
+
+    /// Moves the paragraphs from `first` to `last`.
+    ///
+    /// # Errors
+    ///
+    /// - `UnknownParagraph`, `DeletedParagraph`: a paragraph is not in a document.
+    /// - `UnknownDocument`: no document has the name.
+    /// - `NotARange`: `last` is not `first` or after it in the same document.
+    /// - `InsideTheRange`: the place is directly after a paragraph that is to be moved.
+    /// - `Memory`: an allocation failed.
+    pub fn move_range(
+        &mut self,
+        first: usize,
+        last: usize,
+        place: Place<'_>,
+    ) -> Result<(), CommandError>
+        ensures refused { IsUnchangedIfRefused result self.old self.new }
+        ensures recorded { OnOk result (vec_len self.new.changes ≡ vec_len self.old.changes + 1) }
+    {
+        let p = self.paragraph(first)?;
+        let q = self.paragraph(last)?;
+        let target = self.target(place)?;
+        let origin = self.origin(p)?;
+        self.put_range(p, q, target)?;
+        self.changes.push(Change::Move(first, last, origin))?;
+        Ok(())
+    }
+
+    /// Returns the destination that a line names.
+    fn target(&self, place: Place<'_>) -> Result<Target<P>, Refusal> {
+        match place {
+            Place::After(number) => Ok(Target::After(self.paragraph(number)?)),
+            Place::First(name) => Ok(Target::First(self.document(name)?)),
+            Place::Last(name) => Ok(Target::Last(self.document(name)?)),
+        }
+    }
+
+    /// Moves a range of paragraphs to a destination.
+    ///
+    /// # Errors
+    ///
+    /// - `NotARange`: `last` is not `first` or after it in the same document.
+    /// - `InsideTheRange`: the destination is after a paragraph that is to be moved.
+    pub fn put_range(&mut self, first: P, last: P, target: Target<P>) -> Result<(), Refusal>
+        ensures err { OnErr result (self.new ≡ self.old) }
+        ensures changes { self.new.changes ≡ self.old.changes }
+    {
+        let moved = match target {
+            Target::After(q) => self.put_range_after(first, last, q),
+            Target::First(document) => self.put_range_first(first, last, document),
+            Target::Last(document) => self.put_range_last(first, last, document),
+        };
+        match moved {
+            Some(()) => Ok(()),
+            None => Err(self.range_refusal(first, last)),
+        }
+    }
+
+    /// Moves a range directly behind a paragraph, if that is not in the range.
+    fn put_range_after(&mut self, first: P, last: P, q: P) -> Option<()>
+        ensures none { IfNone result (self.new ≡ self.old) }
+        ensures changes { self.new.changes ≡ self.old.changes }
+    {
+        if self.outline.is_range_without(first, last, q) {
+            self.outline.move_range_after(first, last, q)
+        } else {
+            None
+        }
+    }
+
+    /// Moves a range to the start of a document.
+    fn put_range_first(&mut self, first: P, last: P, document: Document<P>) -> Option<()>
+        ensures none { IfNone result (self.new ≡ self.old) }
+        ensures changes { self.new.changes ≡ self.old.changes }
+    {
+        if self.outline.is_range_without(first, last, document.head) {
+            self.outline.move_range_to_front(first, last, document)
+        } else {
+            None
+        }
+    }
+
+    /// Moves a range to the end of a document.
+    fn put_range_last(&mut self, first: P, last: P, document: Document<P>) -> Option<()>
+        ensures none { IfNone result (self.new ≡ self.old) }
+        ensures changes { self.new.changes ≡ self.old.changes }
+    {
+        if self.outline.is_range_without(first, last, document.head) {
+            self.outline.move_range_to_back(first, last, document)
+        } else {
+            None
+        }
+    }
+
+    /// Returns why a range cannot be moved.
+    fn range_refusal(&self, first: P, last: P) -> Refusal {
+        match self.outline.document_of(first) {
+            Some(document) if self.outline.is_range_without(first, last, document.head) => {
+                Refusal::InsideTheRange
+            }
+            _ => Refusal::NotARange,
+        }
+    }
+
+    /// Moves a paragraph and those after it to a new document.
+    ///
+    /// # Errors
+    ///
+    /// - `UnknownParagraph`, `DeletedParagraph`: the paragraph is not in a document.
+    /// - `NameInUse`: a document has the name.
+    /// - `Memory`: an allocation failed.
+    pub fn split(&mut self, number: usize, name: &str) -> Result<(), CommandError>
+        ensures refused { IsUnchangedIfRefused result self.old self.new }
+        ensures recorded { OnOk result (vec_len self.new.changes ≡ vec_len self.old.changes + 1) }
+    {
+        let p = self.paragraph(number)?;
+        self.refuse_known(name)?;
+        let Some(former) = self.document_number(p) else {
+            return Err(CommandError::Refused(Refusal::UnknownParagraph));
+        };
+        let Ok(Some(handle)) = self.outline.split_at(p) else {
+            return Err(CommandError::Memory);
+        };
+        self.push_title(name, handle)?;
+        self.changes.push(Change::Split(former))?;
+        Ok(())
+    }
+
+    /// Moves all paragraphs of a document to the end of another one. It is empty then.
+    ///
+    /// # Errors
+    ///
+    /// - `UnknownDocument`: no document has one of the names.
+    /// - `SameDocument`: the documents are the same.
+    /// - `Memory`: an allocation failed.
+    pub fn join(&mut self, name: &str, other: &str) -> Result<(), CommandError>
+        ensures refused { IsUnchangedIfRefused result self.old self.new }
+        ensures recorded { OnOk result (vec_len self.new.changes ≡ vec_len self.old.changes + 1) }
+    {
+        let document = self.document(name)?;
+        let emptied = self.document(other)?;
+        let change = self.move_of_all(other, emptied);
+        if self.outline.join(document, emptied).is_none() {
+            return Err(CommandError::Refused(Refusal::SameDocument));
+        }
+        self.changes.push(change)?;
+        Ok(())
+    }
+
+    /// Returns the change that moves all paragraphs of a document to elsewhere.
+    fn move_of_all(&self, name: &str, document: Document<P>) -> Change {
+        let (Some(p), Some(q)) = (self.outline.first(document), self.outline.last(document)) else {
+            return Change::Nothing;
+        };
+        match (self.number_of(p), self.number_of(q), self.names.get(name)) {
+            (Some(first), Some(last), Some(number)) => {
+                Change::Move(first, last, Origin::First(*number))
+            }
+            _ => Change::Nothing,
+        }
+    }
+
+    /// Returns the number of a paragraph.
+    pub fn number_of(&self, p: P) -> Option<usize> {
+        match self.outline.get(p) {
+            Some(paragraph) => Some(paragraph.number),
+            None => None,
+        }
+    }
+
+    /// Sets a bookmark at a paragraph. A bookmark with the name is moved there.
+    ///
+    /// # Errors
+    ///
+    /// - `UnknownParagraph`, `DeletedParagraph`: the paragraph is not in a document.
+    /// - `Memory`: an allocation failed.
+    pub fn mark(&mut self, name: &str, number: usize) -> Result<(), CommandError>
+        ensures refused { IsUnchangedIfRefused result self.old self.new }
+        ensures recorded { OnOk result (vec_len self.new.changes ≡ vec_len self.old.changes + 1) }
+    {
+        let _ = self.paragraph(number)?;
+        let key = String::from_str(self.alloc, name)?;
+        let name = String::from_str(self.alloc, name)?;
+        let former = self.bookmarks.insert(key, number)?;
+        self.changes.push(Change::Mark(name, former))?;
+        Ok(())
+    }
+}

@@ -1,0 +1,22 @@
+//! A program that edits outlines: documents of numbered paragraphs, with bookmarks and undo.
+#![tactic(auto)]
+
+mod command_error;
+mod editor;
+mod line;
+mod paragraphs;
+mod refusal;
+mod renumbering;
+mod session;
+mod status;
+#[cfg(test)]
+mod tests;
+mod undo;
+
+use status::{Status, edit_input};
+use std::io::{BufWriter, writer};
+
+fn main(rt: HostRuntime) -> Status {
+    let output = BufWriter::new(rt.alloc(), writer(&rt));
+    edit_input(rt.alloc(), &mut rt.reader(), output, &mut rt.stderr())
+}

@@ -1,0 +1,265 @@
+//! Runs, which read lines from a reader and write their responses to a writer.
+
+use crate::command_error::CommandError;
+use crate::editor::{Editor, Paragraph};
+use crate::line::{Line, MAX_LINE, parse};
+use crate::refusal::{Refusal, reason};
+use arena_ptr::{PtrKey, ToolPtr};
+use chain_arena::ChainArena;
+use chain_renumbering::RenumberChainArenaTrait;
+use documents::Entry;
+use std::alloc::{AllocError, AllocFailed, Global};
+use std::io::{ErrorKind, Read, Write};
+
+/// The reason that a run stopped before the end of its input.
+#[derive(Clone, Copy, Debug, PartialEq, Eq)]
+pub enum RunError {
+    /// The reader failed.
+    Read,
+    /// The writer failed.
+    Write,
+    /// An allocation failed.
+    Memory,
+}
+
+impl From<AllocError> for RunError {
+    fn from(_error: AllocError) -> RunError {
+        RunError::Memory
+    }
+}
+
+impl<T: Drop> From<AllocFailed<T>> for RunError {
+    fn from(_error: AllocFailed<T>) -> RunError {
+        RunError::Memory
+    }
+}
+
+/// A run: its editor, how many lines there have been, and the response to the last one.
+#[derive(Drop)]
+pub struct Session<P: PtrKey, A: RenumberChainArenaTrait<P, Entry<Paragraph>> + Drop> {
+    editor: Editor<P, A>,
+    lines: u64,
+    response: String,
+    alloc: Global,
+}
+
+/// The session of the program.
+pub type ToolSession = Session<ToolPtr, ChainArena<ToolPtr, Entry<Paragraph>>>;
+
+impl<P: PtrKey, A: RenumberChainArenaTrait<P, Entry<Paragraph>> + Drop> Session<P, A> {
+    /// Begins a session without documents.
+    ///
+    /// # Errors
+    ///
+    /// - `AllocError`: an allocation failed.
+    pub fn new(alloc: Global) -> Result<Self, AllocError> {
+        Ok(Session {
+            editor: Editor::new(alloc)?,
+            lines: 0,
+            response: String::new(alloc),
+            alloc,
+        })
+    }
+
+    /// Executes a line and returns its response.
+    ///
+    /// # Errors
+    ///
+    /// - `AllocError`: an allocation failed.
+    pub fn respond(&mut self, line: &[u8]) -> Result<&str, AllocError> {
+        self.lines = self.lines.saturating_add(1);
+        self.response.clear();
+        let result = match parse(line) {
+            Ok(line) => self.execute(line),
+            Err(refusal) => Err(CommandError::Refused(refusal)),
+        };
+        match result {
+            Ok(()) => Ok(&self.response),
+            Err(CommandError::Refused(refusal)) => {
+                self.refuse(refusal)?;
+                Ok(&self.response)
+            }
+            Err(CommandError::Memory) => Err(AllocError),
+        }
+    }
+
+    /// Responds why the line is refused.
+    fn refuse(&mut self, refusal: Refusal) -> Result<(), AllocError> {
+        let text = format!(in self.alloc; "line {}: {}\n", self.lines, reason(refusal))?;
+        self.response.push_str(&text)
+    }
+
+    /// Returns the editor.
+    pub fn editor(&self) -> &Editor<P, A> {
+        &self.editor
+    }
+
+    /// Executes a command.
+    ///
+    /// # Errors
+    ///
+    /// - `Refused`: the command is refused, and the editor is unchanged.
+    /// - `Memory`: an allocation failed.
+    pub fn execute(&mut self, line: Line<'_>) -> Result<(), CommandError> {
+        match line {
+            Line::Go(name) => self.go(name),
+            Line::Print(name) => self.print(name),
+            Line::Back(name) => self.print_back(name),
+            Line::List => Ok(self.list()?),
+            Line::Add(name, text) => {
+                let number = self.editor.add(name, text)?;
+                Ok(self.respond_number(number)?)
+            }
+            Line::After(number, text) => {
+                let number = self.editor.insert_after(number, text)?;
+                Ok(self.respond_number(number)?)
+            }
+            Line::Before(number, text) => {
+                let number = self.editor.insert_before(number, text)?;
+                Ok(self.respond_number(number)?)
+            }
+            _ => self.change(line),
+        }
+    }
+
+    /// Executes a command that has no response.
+    fn change(&mut self, line: Line<'_>) -> Result<(), CommandError> {
+        match line {
+            Line::Document(name) => self.editor.create(name),
+            Line::Edit(number, text) => self.editor.edit(number, text),
+            Line::Delete(number) => self.editor.delete(number),
+            Line::Move(first, last, place) => self.editor.move_range(first, last, place),
+            Line::Split(number, name) => self.editor.split(number, name),
+            Line::Join(name, other) => self.editor.join(name, other),
+            Line::Mark(name, number) => self.editor.mark(name, number),
+            Line::Undo => Ok(self.editor.undo()?),
+            Line::Renumber => Ok(self.editor.renumber()?),
+            _ => Ok(()),
+        }
+    }
+
+    /// Responds with the number of a paragraph that was inserted.
+    fn respond_number(&mut self, number: usize) -> Result<(), AllocError> {
+        let text = format!(in self.alloc; "paragraph {}\n", number)?;
+        self.response.push_str(&text)
+    }
+
+    /// Responds with a paragraph.
+    fn respond_paragraph(&mut self, number: usize) -> Result<(), CommandError> {
+        let text = format!(in self.alloc; "{} {}\n", number, self.editor.text(number)?)?;
+        Ok(self.response.push_str(&text)?)
+    }
+
+    /// Responds with a bookmarked paragraph.
+    fn go(&mut self, name: &str) -> Result<(), CommandError> {
+        let (number, document) = self.editor.bookmark(name)?;
+        self.response.push_str(document)?;
+        self.response.push_str(" ")?;
+        self.respond_paragraph(number)
+    }
+
+    /// Responds with the paragraphs of a document.
+    fn print(&mut self, name: &str) -> Result<(), CommandError> {
+        let document = self.editor.document(name)?;
+        for number in self.editor.numbers(document)? {
+            self.respond_paragraph(number)?;
+        }
+        Ok(())
+    }
+
+    /// Responds with the paragraphs of a document, from the last to the first.
+    fn print_back(&mut self, name: &str) -> Result<(), CommandError> {
+        let document = self.editor.document(name)?;
+        for number in self.editor.numbers_back(document)? {
+            self.respond_paragraph(number)?;
+        }
+        Ok(())
+    }
+
+    /// Responds with the documents and their numbers of paragraphs.
+    fn list(&mut self) -> Result<(), AllocError> {
+        for title in self.editor.titles() {
+            let count = self.editor.numbers(title.handle)?.len();
+            let text = format!(in self.alloc; "{} {}\n", title.name, count)?;
+            self.response.push_str(&text)?;
+        }
+        Ok(())
+    }
+
+    /// Executes the lines that a piece of the input completes, and keeps the beginning of the next
+    /// line, of which one byte more than the maximum is enough.
+    fn feed<W: Write>(
+        &mut self,
+        piece: &[u8],
+        line: &mut Vec<u8>,
+        writer: &mut W,
+    ) -> Result<(), RunError> {
+        for byte in piece {
+            if *byte == b'\n' {
+                self.end_line(line, writer)?;
+                line.clear();
+            } else if line.len() <= MAX_LINE {
+                line.push(*byte)?;
+            }
+        }
+        Ok(())
+    }
+
+    /// Executes a line and writes its response.
+    fn end_line<W: Write>(&mut self, line: &[u8], writer: &mut W) -> Result<(), RunError> {
+        let response = self.respond(line)?;
+        writer
+            .write_all(response.as_bytes())
+            .or(Err(RunError::Write))
+    }
+}
+
+/// Runs the lines of a reader on a session and writes the output to a writer.
+///
+/// The writer is flushed before each read.
+fn run_on<P: PtrKey, A: RenumberChainArenaTrait<P, Entry<Paragraph>> + Drop, R: Read, W: Write>(
+    session: &mut Session<P, A>,
+    reader: &mut R,
+    writer: &mut W,
+) -> Result<(), RunError> {
+    let alloc = session.alloc;
+    let mut piece = vec![in alloc; 0u8; 65536]?;
+    let mut line = Vec::new(alloc);
+    // Each loop is proved to end, so the reads are bounded.
+    for _ in 0..u64::MAX {
+        if writer.flush().is_err() {
+            return Err(RunError::Write);
+        }
+        match reader.read(&mut piece) {
+            Ok(0) => {
+                session.end_line(&line, writer)?;
+                return writer.flush().or(Err(RunError::Write));
+            }
+            Ok(n) => session.feed(&piece[..n], &mut line, writer)?,
+            Err(e) => {
+                if e.kind() != ErrorKind::Interrupted {
+                    return Err(RunError::Read);
+                }
+            }
+        }
+    }
+    Err(RunError::Read)
+}
+
+/// Runs the lines of a reader on a new editor and writes the output to a writer.
+///
+/// # Errors
+///
+/// - `Memory`: an allocation failed.
+/// - `Write`: the writer failed.
+/// - `Read`: the reader failed.
+///
+/// Lines executed before the error keep their effect.
+pub fn run<R: Read, W: Write>(
+    alloc: Global,
+    reader: &mut R,
+    writer: &mut W,
+) -> Result<(), RunError> {
+    let mut session: ToolSession = Session::new(alloc)?;
+    run_on(&mut session, reader, writer)
+}
