@@ -48,12 +48,15 @@ impl<P: PtrKey, A: ChainArenaTrait<P, Entry<Paragraph>> + Drop> Editor<P, A> {
         ensures err { OnErr result ((vec_len self.old.changes ≡ 0) × (self.new ≡ self.old)) }
         ensures one { OnOk result (vec_len self.new.changes + 1 ≡ vec_len self.old.changes) }
     {
+        if self.changes.is_empty() {
+            return Err(Refusal::NothingToUndo);
+        }
         match self.changes.pop() {
             Some(change) => {
                 let _ = self.reverse(change);
                 Ok(())
             }
-            None => Err(Refusal::NothingToUndo),
+            None => unreachable!(),
         }
     }
 
