@@ -39,7 +39,7 @@ enum Op {
 // of the queues as digits, with a 9 in front of each queue.
 type Row = (Op, usize, u32, bool, u64);
 
-const TURNS: [Row; 27] = [
+const TURNS: [Row; 32] = [
     (Op::New, 0, 0, true, 9),
     (Op::New, 0, 0, true, 9_9),
     (Op::Spawn, 0, 1, true, 91_9),
@@ -55,6 +55,11 @@ const TURNS: [Row; 27] = [
     (Op::WakeAll, 0, 0, false, 9231_9),
     (Op::WakeOne, 1, 0, false, 9231_9),
     (Op::Next, 1, 0, false, 9231_9),
+    (Op::Spawn, 1, 4, true, 9231_94),
+    (Op::Next, 1, 3, true, 9231_94),
+    (Op::Cancel, 3, 4, true, 9231_9),
+    (Op::Spawn, 1, 6, true, 9231_96),
+    (Op::Cancel, 4, 6, true, 9231_9),
     (Op::Cancel, 2, 3, true, 921_9),
     (Op::Cancel, 2, 3, false, 921_9),
     (Op::Move, 2, 0, false, 921_9),
