@@ -2,7 +2,7 @@
 #![tactic(auto)]
 
 #[cfg(test)]
-mod documents;
+mod document_calls;
 #[cfg(test)]
 mod play_list;
 #[cfg(test)]
