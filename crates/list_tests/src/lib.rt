@@ -1,10 +1,6 @@
-//! Tests of linked lists, run queues and documents.
+//! Tests of linked lists and of run queues.
 #![tactic(auto)]
 
-#[cfg(test)]
-mod document_calls;
-#[cfg(test)]
-mod play_list;
 #[cfg(test)]
 mod queues;
 #[cfg(test)]

@@ -89,7 +89,10 @@ fn plays_in_order<P: PtrKey, A: ChainArenaTrait<P, Entry<Song>> + Drop>(
     let four = list.add(4)?;
     let first = list.play_next() == Some(1) && list.undo().is_some();
     let grouped = list.group_to_front(three, four).is_some();
-    let shuffled = list.shuffle(&[(three, three), (one, two)]).is_some();
+    let mut groups = Vec::new(alloc);
+    groups.push((three, three))?;
+    groups.push((one, two))?;
+    let shuffled = list.shuffle(&groups).is_some();
     let refused = list.group_to_front(four, one).is_none();
     Ok(first && grouped && shuffled && refused && played(&mut list) == 1234)
 }
