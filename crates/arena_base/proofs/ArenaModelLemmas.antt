@@ -19,7 +19,6 @@ module _ {P T Inx Gen Word : Type 0} (slots : List (ArenaSlot P T Inx Gen Word))
   abbrev now : Arena Gen T
   now = arena_of slots ns counter greatest capacity maximum placed touched
 
-  -- The model's slots after a slot is written.
   pub viewed_slots : (k n : ℕ) (slot : ArenaSlot P T Inx Gen Word) → k + 1 ≡ n → map entry_of (slice_set slots k slot) ≡ with_slot (map entry_of slots) n (entry_of slot)
   viewed_slots k n slot at = map-set entry_of slots k slot ∙ sym (with_slot-position (map entry_of slots) k n (entry_of slot) at)
 
@@ -40,7 +39,6 @@ module _ {P T Inx Gen Word : Type 0} (slots : List (ArenaSlot P T Inx Gen Word))
   viewed_vacated following k n next at =
       ap (λ (es : List (Option (Gen × T))). let a : Arena Gen T = record now { slots = es; counter = following counter; freed = n ∷ ns; placed = placed + 1 } in a) (viewed_slots k n (free_slot next) at)
 
-  -- The model's entry at an index.
   entry_viewed : (k n : ℕ) (g : Gen) (t : T) → k + 1 ≡ n → slice_get slots k ≡ Some (allocated_slot g t) → slot_at (map entry_of slots) n ≡ Some (g, t)
   entry_viewed k n g t at is = entry_at-position slots k n at ∙ ap entry_in is
 
@@ -60,7 +58,6 @@ module _ {P T Inx Gen Word : Type 0} (slots : List (ArenaSlot P T Inx Gen Word))
       ∙ ap (λ (o : Option (Gen × T)). with_slot (map entry_of slots) n (option_map (λ (e : Gen × T). (following counter, e.1)) o)) (sym (entry_viewed k n g t at is)))
 
 module _ {P T Inx Gen Word : Type 0} (number : PackedOption Inx Word → Option ℕ) where
-  -- The arena after a value is written.
   pub lent_view : {slots : List (ArenaSlot P T Inx Gen Word)} {greatest len : ℕ} {head : PackedOption Inx Word} → IsSound number slots greatest len head (freed_of number slots head)
       → (counter : Gen) (capacity : ℕ) (maximum : Option ℕ) (placed touched : ℕ) (k n : ℕ) (slot : ArenaSlot P T Inx Gen Word) (w : T)
       → (items : List (ArenaSlot P T Inx Gen Word)) (new_capacity : ℕ) (most : Option ℕ) → k + 1 ≡ n → slice_get slots k ≡ Some slot → items ≡ slice_set slots k (with_value_in slot w) → new_capacity ≡ capacity → most ≡ maximum
@@ -69,7 +66,6 @@ module _ {P T Inx Gen Word : Type 0} (number : PackedOption Inx Word → Option 
       rw (written, equal_capacity, same_most, walked_all number (lent number k slot w s is))
       (viewed_with_value slots (freed_of number slots head) counter greatest capacity maximum placed touched k n slot w at is)
 
-  -- The arena after an entry is removed.
   pub vacated_view : {slots : List (ArenaSlot P T Inx Gen Word)} {greatest len : ℕ} {head : PackedOption Inx Word} → IsSound number slots greatest len head (freed_of number slots head)
       → (counter after : Gen) (capacity new_capacity : ℕ) (maximum most : Option ℕ) (placed total touched : ℕ) (following : Gen → Gen) (k i : ℕ) (first : PackedOption Inx Word) (g : Gen) (t : T) (items : List (ArenaSlot P T Inx Gen Word))
       → number first ≡ Some i → k + 1 ≡ i → slice_get slots k ≡ Some (allocated_slot g t) → items ≡ slice_set slots k (free_slot head) → new_capacity ≡ capacity → most ≡ maximum → after ≡ following counter → total ≡ placed + 1
@@ -79,13 +75,11 @@ module _ {P T Inx Gen Word : Type 0} (number : PackedOption Inx Word → Option 
       rw (written, equal_capacity, same_most, same_after, same_total, walked_all number (slot_vacated number s k i first g t (len - 1) names at is (omega (arith, some))))
       (viewed_vacated slots (freed_of number slots head) counter greatest capacity maximum placed touched following k i head at)
 
-  -- The arena after its slots are dropped.
   pub cleared_view : (slots items : List (ArenaSlot P T Inx Gen Word)) (head : PackedOption Inx Word) (ns : List ℕ) (counter after : Gen) (greatest capacity new_capacity : ℕ) (maximum most : Option ℕ) (placed touched len : ℕ) (following : Gen → Gen)
       → items ≡ [] → new_capacity ≡ capacity → most ≡ maximum → len ≡ count_by is_some (map entry_of slots) → after ≡ counter_after_clear following len counter
       → arena_of items (freed_of number items head) after greatest new_capacity most placed touched ≡ arena_after_clear following (arena_of slots ns counter greatest capacity maximum placed touched)
   cleared_view slots items head ns counter after greatest capacity new_capacity maximum most placed touched len following none equal_capacity same_most counted same_after = rw (none, equal_capacity, same_most, same_after, counted)
 
-  -- The arena after a slot is written back unchanged.
   pub kept_view : (slots items : List (ArenaSlot P T Inx Gen Word)) (head : PackedOption Inx Word) (counter : Gen) (greatest capacity new_capacity : ℕ) (maximum most : Option ℕ) (placed touched : ℕ) (k : ℕ) (slot : ArenaSlot P T Inx Gen Word)
       → slice_get slots k ≡ Some slot → items ≡ slice_set slots k slot → new_capacity ≡ capacity → most ≡ maximum
       → arena_of items (freed_of number items head) counter greatest new_capacity most placed touched ≡ arena_of slots (freed_of number slots head) counter greatest capacity maximum placed touched
@@ -93,7 +87,6 @@ module _ {P T Inx Gen Word : Type 0} (number : PackedOption Inx Word → Option 
       let same : items ≡ slots = written ∙ slice_set-itself slots k slot is in
       rw (same, equal_capacity, same_most)
 
-  -- The arena after an insertion into the first freed slot.
   pub filled_freed_view : {slots : List (ArenaSlot P T Inx Gen Word)} {greatest len : ℕ} {head : PackedOption Inx Word} → IsSound number slots greatest len head (freed_of number slots head)
       → (counter : Gen) (capacity new_capacity : ℕ) (maximum most : Option ℕ) (placed total touched : ℕ) (k i : ℕ) (next : PackedOption Inx Word) (t : T) (items : List (ArenaSlot P T Inx Gen Word))
       → number head ≡ Some i → k + 1 ≡ i → slice_get slots k ≡ Some (free_slot next) → items ≡ slice_set slots k (allocated_slot counter t) → new_capacity ≡ capacity → most ≡ maximum → total ≡ placed + 1
@@ -105,7 +98,6 @@ module _ {P T Inx Gen Word : Type 0} (number : PackedOption Inx Word → Option 
         rw (written, equal_capacity, same_most, same_total, walked_all number filled.0) (viewed_filled_freed slots (freed_of number slots head) counter greatest capacity maximum placed touched k i _ t at filled.1),
       )
 
-  -- The arena after an insertion into a new slot.
   pub filled_next_view : {slots : List (ArenaSlot P T Inx Gen Word)} {greatest len : ℕ} {head : PackedOption Inx Word} → IsSound number slots greatest len head (freed_of number slots head)
       → (counter : Gen) (capacity new_capacity : ℕ) (maximum most : Option ℕ) (placed total touched : ℕ) (t : T) (items : List (ArenaSlot P T Inx Gen Word))
       → number head ≡ None → len < greatest → items ≡ slots ++ allocated_slot counter t ∷ [] → new_capacity ≡ capacity → most ≡ maximum → total ≡ placed + 1
@@ -118,7 +110,6 @@ module _ {P T Inx Gen Word : Type 0} (number : PackedOption Inx Word → Option 
       )
 
 module _ {Gen T : Type 0} (old mid new : Arena Gen T) (t : T) (grown : mid ≡ with_capacity_of old mid) (inserted : new ≡ insert_next mid t) where
-  -- An insertion after growth.
   pub inserted_grown : new ≡ with_capacity_of (insert_next old t) new
   inserted_grown = inserted ∙ (ap (λ (a : Arena Gen T). insert_next a t) grown ∙ ap (λ (a : Arena Gen T). with_capacity_of (insert_next old t) a) (sym inserted))
 

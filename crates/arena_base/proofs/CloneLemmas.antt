@@ -34,7 +34,6 @@ module _ {F P T Gen : Type 0} (is_clone : T → T → Type 0) (equal : (x y : T)
         capacity = subst (λ m. IsCapacityFor greatest m (length source.slots) new.capacity) most fits.0;
       }
 
--- Without slots no copy is refused.
 pub refused_with_slots : {P U Gen N : Type 0} (may_refuse : P → U → Type 0) (key : P → ℕ × Gen) (slots : List (Option (Gen × U))) (capacity : ℕ) (r : Result (Unit {0}) ReallocationError) (e : ReallocationError) → r ≡ Err e
     → (length slots ≤ capacity → (IsOk r ⊎ HasRefusable may_refuse key (entries_from 1 slots)) × N) → 0 < length slots
 refused_with_slots may_refuse key [] capacity r e is within = absurd (by (within (omega arith)).0)
@@ -48,7 +47,6 @@ refused_with_slots may_refuse key [] capacity r e is within = absurd (by (within
     by (inr refused) = none_among refused.before refused.after (key refused.pointer, refused.value) refused.stored
 refused_with_slots may_refuse key (s ∷ slots) capacity r e is within = omega arith
 
--- A copy over new slots is refused as the copy to a new arena is.
 pub refuses_copy : (maximum : Option ℕ) (n : ℕ) (r : Result (Unit {0}) ReallocationError) (why : ReallocationError) → r ≡ Err why → 0 < n
     → (r ≡ Err refused.BeyondMaxCapacity) ↔ IsBeyond maximum n → RefusesCopy maximum n why
 refuses_copy maximum n r refused.BeyondMaxCapacity is some known = known.0 is

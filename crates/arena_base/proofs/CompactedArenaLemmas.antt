@@ -16,13 +16,11 @@ use Rattle.arena_traits.proofs.ArenaViewLemmas.{length-entries}
 use Rattle.arena_traits.proofs.ClosureLemmas.{visits_keep_count}
 
 module _ {Gen T : Type 0} (g : Gen) where
-  -- Trimming removes the free slots of closed slots.
   without_free_end-closed : (values : List T) (n : ℕ) → without_free_end (with_front g values (replicate n None)) ≡ with_front g values []
   without_free_end-closed [] zero = refl
   without_free_end-closed [] (suc n) = ap (before_cut None) (without_free_end-closed [] n)
   without_free_end-closed (v ∷ values) n = ap (λ (es : List (Option (Gen × T))). Some (g, v) ∷ es) (without_free_end-closed values n)
 
-  -- The number, the free slots and the entries of closed slots.
   pub length-slots : (values : List T) → length (with_front g values []) ≡ length values
   length-slots [] = refl
   length-slots (v ∷ values) = ap suc (length-slots values)
@@ -43,7 +41,6 @@ module _ {Gen T : Type 0} (g : Gen) where
   generations-with_front (v ∷ values) i = All-cons (λ (e : (ℕ × Gen) × T). e.0.1 ≡ g) ((i, g), v) (entries_from (suc i) (with_front g values [])) refl (generations-with_front values (suc i))
 
 module _ {F P T Gen : Type 0} (g : Mut F (P × (MutBor T × (P × Unit {0}))) (Unit {0} × (MutBor T × Unit {0}))) (key : P → ℕ × Gen) (f : F) where
-  -- Taking the slots out, closing the holes and returning them compacts the arena.
   pub gathers : (greatest : ℕ) (maximum : Option ℕ) (generation : Gen) (old start finish new : Arena Gen T) (before after : DetachedView Gen T) → start ≡ arena_without_slots maximum old → before ≡ detached_of old → old.capacity ≡ min old.stack_capacity greatest
       → generation ≡ old.counter → AreClosed generation before after → VisitsAll g key f (entries_from 1 before.slots) (entries_from 1 after.slots)
       → finish ≡ with_totals start (length (entries_from 1 before.slots)) (length before.slots + length (entries_from 1 before.slots)) → new ≡ arena_after_return greatest finish after
@@ -83,7 +80,6 @@ module _ {F P T Gen : Type 0} (g : Mut F (P × (MutBor T × (P × Unit {0}))) (U
           same : entries_from 1 after.slots ≡ entries new
           same = ap (λ (h : DetachedView Gen T). entries_from 1 h.slots) is_after ∙ (entries-closed old.counter values closed.free 1 ∙ sym (ap entries whole))
 
--- There are at most as many entries as slots.
 pub few_entries : {Gen T : Type 0} (a : Arena Gen T) → length (entries a) ≤ length a.slots
 few_entries a = omega (arith, length-entries a, free_from-total a.slots 1)
 
@@ -104,11 +100,9 @@ module _ {F P T Gen : Type 0} (g : Mut F (P × (MutBor T × (P × Unit {0}))) (U
         sym (length-with_front counter values 1) ∙ (ap (λ (a : Arena Gen T). length (entries a)) (sym is_new)
         ∙ (visits_keep_count g key gathering.visits ∙ ap (λ (a : Arena Gen T). length (entries a)) is_mid))
 
-    -- The closure visits the entries.
     pub compressing_visits : VisitsAll g key f (entries old) (entries new)
     compressing_visits = subst (λ es. VisitsAll g key f es (entries new)) (ap (λ (a : Arena Gen T). entries a) is_mid) gathering.visits
 
-    -- The arena is compressed.
     pub compressing : (first : Gen) (following : Gen → Gen) (reset : Bool) (count : ℕ) → counter ≡ counter_after_compression first following reset count old.counter → count ≡ length (entries old)
         → IsCompressed first following reset (view_of old) (view_of new)
     compressing first following reset count is_counter is_count =

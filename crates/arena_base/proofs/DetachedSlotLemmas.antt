@@ -17,7 +17,6 @@ module _ {X : Type 0} where
   slot_at-position : (xs : List (Option X)) (k n : ℕ) → k + 1 ≡ n → slice_index_or xs k None ≡ slot_at xs n
   slot_at-position xs k n at = let next : suc k ≡ n = omega (arith, at) in ap (slot_at xs) next
 
--- The last of two writes to a slot counts.
 at_one : {X : Type 0} (xs : List X) (i j : ℕ) → j ≡ i → (x y z : X) → slice_set (slice_set xs i x) j z ≡ slice_set (slice_set xs i y) j z
 at_one xs i j same x y z = ap (λ n. slice_set (slice_set xs i x) n z) same ∙ (set-set xs i x z ∙ (sym (set-set xs i y z) ∙ ap (λ n. slice_set (slice_set xs i y) n z) (sym same)))
 
@@ -60,7 +59,6 @@ module _ {P T Inx Gen Word : Type 0} where
       let slots : List (ArenaSlot P T Inx Gen Word) = d ∷ rest in
       length-set (slice_set slots i (slice_index_or slots j d)) j (slice_index_or slots i d) ∙ length-set slots i (slice_index_or slots j d)
 
-  -- A placement, in terms of positions.
   detached_moved_to : (slots items : List (ArenaSlot P T Inx Gen Word)) (capacity : ℕ) (maximum : Option ℕ) (i j from to : ℕ) (g : Gen) → i + 1 ≡ from → j + 1 ≡ to
       → map entry_of items ≡ slice_set (slice_set (map entry_of slots) i (slice_index_or (map entry_of slots) j None)) j (regenerated g (slice_index_or (map entry_of slots) i None))
       → detached_view items capacity maximum ≡ with_placed_entry (detached_view slots capacity maximum) from to g
@@ -75,7 +73,6 @@ module _ {P T Inx Gen Word : Type 0} where
       ∙ sym (with_slot-position (with_slot es from (slot_at es to)) j to (regenerated g (slot_at es from)) at_to)))) in
       ap (λ fs. let h : DetachedView Gen T = record { slots = fs; stack_capacity = capacity; maximum = maximum } in h) all
 
-  -- Setting a generation and swapping is a placement.
   pub detached_placed : (slots : List (ArenaSlot P T Inx Gen Word)) (capacity : ℕ) (maximum : Option ℕ) (i j from to : ℕ) (g : Gen) → i + 1 ≡ from → j + 1 ≡ to → i < length slots → j < length slots
       → detached_view (swap (with_generation_at slots i g) i j) capacity maximum ≡ with_placed_entry (detached_view slots capacity maximum) from to g
   detached_placed slots capacity maximum i j from to g at_from at_to first second = detached_moved_to slots (swap (with_generation_at slots i g) i j) capacity maximum i j from to g at_from at_to (all ∙ by (ℕ_discrete j i))
@@ -100,7 +97,6 @@ module _ {P T Inx Gen Word : Type 0} where
       by (yes s) = at_one (map entry_of slots) i j s (slice_index_or (slice_set (map entry_of slots) i (regenerated g (slice_index_or (map entry_of slots) i None))) j None) (slice_index_or (map entry_of slots) j None) (regenerated g (slice_index_or (map entry_of slots) i None))
       by (no differs) = ap (λ o. slice_set (slice_set (map entry_of slots) i o) j (regenerated g (slice_index_or (map entry_of slots) i None))) (get_or-set_other (map entry_of slots) i j (regenerated g (slice_index_or (map entry_of slots) i None)) None differs)
 
-  -- Moving an entry to a free slot or its own is a placement.
   pub detached_moved : (slots : List (ArenaSlot P T Inx Gen Word)) (capacity : ℕ) (maximum : Option ℕ) (i j from to : ℕ) (g h : Gen) (t : T) (next : PackedOption Inx Word) → i + 1 ≡ from → j + 1 ≡ to
       → Some (h, t) ≡ slice_index_or (map entry_of slots) i None → (j ≢ i → slice_index_or (map entry_of slots) j None ≡ None)
       → detached_view (slice_set (slice_set slots i (free_slot next)) j (allocated_slot g t)) capacity maximum ≡ with_placed_entry (detached_view slots capacity maximum) from to g
@@ -115,19 +111,16 @@ module _ {P T Inx Gen Word : Type 0} where
       by (no differs) = ap (λ o. slice_set (slice_set (map entry_of slots) i o) j (Some (g, t))) (sym (free differs))
 
   module _ (slots : List (ArenaSlot P T Inx Gen Word)) (es : List (Option (Gen × T))) (same : map entry_of slots ≡ es) (i from : ℕ) (at_from : i + 1 ≡ from) where
-    -- An entry of the model is in the slots.
     pub brought_there : None ≡ entry_in (slice_get slots i) → IsSome (slot_at es from) → ⊥
     brought_there none some =
         let free : slot_at es from ≡ None = sym (ap (λ fs. slot_at fs from) same) ∙ (entry_at-position slots i from at_from ∙ sym none) in
         let both : false ≡ true = subst IsSome free some in
         cc
 
-    -- A slot that is free in the model is free.
     pub brought_free : (j to : ℕ) → j + 1 ≡ to → (to ≢ from → slot_at es to ≡ None) → j ≢ i → slice_index_or (map entry_of slots) j None ≡ None
     brought_free j to at_to free differs =
         slot_at-position (map entry_of slots) j to at_to ∙ (ap (λ fs. slot_at fs to) same ∙ free (λ s. differs (omega (arith, s, at_to, at_from))))
 
-  -- A value is written.
   pub detached_lent : (slots items : List (ArenaSlot P T Inx Gen Word)) (capacity new_capacity : ℕ) (maximum most : Option ℕ) (k n : ℕ) (slot : ArenaSlot P T Inx Gen Word) (w : T) → k + 1 ≡ n → slice_get slots k ≡ Some slot
       → items ≡ slice_set slots k (with_value_in slot w) → new_capacity ≡ capacity → most ≡ maximum
       → detached_view items new_capacity most ≡ detached_with_value (detached_view slots capacity maximum) n w

@@ -27,7 +27,6 @@ module _ {Gen T : Type 0} where
   entries_from-take (None ∷ slots) i (suc k) n below at = entries_from-take slots (suc i) k n (omega (arith, below)) (omega (arith, at))
   entries_from-take (Some e ∷ slots) i (suc k) n below at = ap (λ es. ((i, e.0), e.1) ∷ es) (entries_from-take slots (suc i) k n (omega (arith, below)) (omega (arith, at)))
 
-  -- The last key up to a position is the slot's there, or else the last one before it.
   pub last_key-take : (slots : List (Option (Gen × T))) (k n : ℕ) → k < length slots → 1 + k ≡ n
       → last_key (entries_from 1 (take (suc k) slots)) ≡ first_of (option_map (key_at n) (slice_index_or slots k None)) (last_key (entries_from 1 (take k slots)))
   last_key-take slots k n below at = ap last_key (entries_from-take slots 1 k n below at) ∙ last_key-of (entries_from 1 (take k slots)) (slice_index_or slots k None)
@@ -43,7 +42,6 @@ module _ {Gen T : Type 0} where
   take-all (None ∷ slots) i (suc k) past = take-all slots (suc i) k (omega (arith, past))
   take-all (Some e ∷ slots) i (suc k) past = ap (λ es. ((i, e.0), e.1) ∷ es) (take-all slots (suc i) k (omega (arith, past)))
 
-  -- All entries of slots have at least the first slot's index.
   entries_at_or_above-all : (slots : List (Option (Gen × T))) (i j : ℕ) → i ≤ j → entries_at_or_above i (entries_from j slots) ≡ entries_from j slots
   entries_at_or_above-all [] i j below = refl
   entries_at_or_above-all (None ∷ slots) i j below = entries_at_or_above-all slots i (suc j) (omega (arith, below))
@@ -58,7 +56,6 @@ module _ {Gen T : Type 0} where
       ap (λ b. cond b (((j, e.0), e.1) ∷ entries_from (suc j) slots) (entries_at_or_above i (entries_from (suc j) slots))) (lt-leb i j (omega (arith, at)))
       ∙ entries_at_or_above-drop slots i (suc j) k (omega (arith, at))
 
-  -- No entry of slots has an index below the first slot's.
   entries_at_or_below-none : (slots : List (Option (Gen × T))) (i j : ℕ) → i < j → entries_at_or_below i (entries_from j slots) ≡ []
   entries_at_or_below-none [] i j below = refl
   entries_at_or_below-none (None ∷ slots) i j below = entries_at_or_below-none slots i (suc j) (omega (arith, below))
@@ -73,7 +70,6 @@ module _ {Gen T : Type 0} where
       ap (λ b. cond b (((j, e.0), e.1) ∷ entries_at_or_below i (entries_from (suc j) slots)) []) (le-leb j i (omega (arith, at)))
       ∙ ap (λ es. ((j, e.0), e.1) ∷ es) (entries_at_or_below-take slots i (suc j) k (omega (arith, at)))
 
-  -- A step of a downward search.
   pub last_key-step : (slots : List (Option (Gen × T))) (k n : ℕ) (o : Option (ℕ × Gen)) → k + 1 ≡ n → k < length slots → o ≡ option_map (key_at (k + 1)) (slice_index_or slots k None)
       → last_key (entries_from 1 (take n slots)) ≡ first_of o (last_key (entries_from 1 (take k slots)))
   last_key-step slots k n o at below is =
@@ -81,7 +77,6 @@ module _ {Gen T : Type 0} where
       ap (λ m. last_key (entries_from 1 (take m slots))) (sym next)
       ∙ (last_key-take slots k (k + 1) below (omega arith) ∙ ap (λ p. first_of p (last_key (entries_from 1 (take k slots)))) (sym is))
 
-  -- The entries ahead by ascending index start at a position.
   pub ahead_up : (slots : List (Option (Gen × T))) (from k : ℕ) → k ≡ from - 1 → entries_from (k + 1) (drop k slots) ≡ entries_at_or_above from (entries_from 1 slots)
   ahead_up slots zero k at =
       let start : k ≡ 0 = omega (arith, at) in
@@ -93,11 +88,9 @@ module _ {Gen T : Type 0} where
       let next : k + 1 ≡ suc n = omega (arith, at) in
       ap (λ j. entries_from j (drop k slots)) next ∙ sym (entries_at_or_above-drop slots (suc n) 1 k (omega (arith, next)))
 
-  -- The entries ahead by descending index end at a position.
   pub ahead_down : (slots : List (Option (Gen × T))) (to : ℕ) → entries_from 1 (take to slots) ≡ entries_at_or_below to (entries_from 1 slots)
   ahead_down slots to = sym (entries_at_or_below-take slots to 1 to (omega arith))
 
-  -- The entries from a position on are that of its slot, if any, and those from the next one on.
   entries_from-drop : (slots : List (Option (Gen × T))) (i k : ℕ) → k < length slots
       → entries_from i (drop k slots) ≡ entry_list i (slice_index_or slots k None) ++ entries_from (suc i) (drop (suc k) slots)
   entries_from-drop [] i k below = absurd (omega (arith, below))
@@ -105,14 +98,12 @@ module _ {Gen T : Type 0} where
   entries_from-drop (Some e ∷ slots) i zero below = refl
   entries_from-drop (s ∷ slots) i (suc k) below = entries_from-drop slots i k (omega (arith, below))
 
-  -- No entry is at a position past the slots.
   pub entries_from-past : (slots : List (Option (Gen × T))) (i k : ℕ) → length slots ≤ k → entries_from i (drop k slots) ≡ []
   entries_from-past [] i zero past = refl
   entries_from-past [] i (suc k) past = refl
   entries_from-past (s ∷ slots) i zero past = absurd (omega (arith, past))
   entries_from-past (s ∷ slots) i (suc k) past = entries_from-past slots i k (omega (arith, past))
 
-  -- Without an entry at a position, the entries are those from the next one on.
   pub entries_from-step : (slots : List (Option (Gen × T))) (k n : ℕ) → suc k ≡ n → k < length slots → None ≡ option_map (key_at n) (slice_index_or slots k None)
       → entries_from n (drop k slots) ≡ entries_from (n + 1) (drop n slots)
   entries_from-step slots k n at below none =
@@ -124,7 +115,6 @@ module _ {Gen T : Type 0} where
       is_none None is = refl
       is_none (Some e) is = absurd (cc)
 
-  -- An entry at a position is the next one.
   pub next_entry : (slots : List (Option (Gen × T))) (from k n : ℕ) (p : ℕ × Gen) (t : T) → suc k ≡ n → k < length slots → entries_from (from + 1) (drop from slots) ≡ entries_from n (drop k slots)
       → Some p ≡ option_map (key_at n) (slice_index_or slots k None) → Some t ≡ option_map (λ e. e.1) (slice_index_or slots k None) → IsNextEntry slots from n p t
   next_entry slots from k n p t at below same key value =
@@ -145,6 +135,5 @@ module _ {Gen T : Type 0} where
           let item : t ≡ e.1 = cc in
           (ap (λ q. q.0) pointer, λ i. Some ((sym pointer i).1, sym item i))
 
-  -- An entry that is next after a step is next before it.
   pub next_entry-step : (slots : List (Option (Gen × T))) (from k n : ℕ) (p : ℕ × Gen) (t : T) → entries_from (from + 1) (drop from slots) ≡ entries_from (k + 1) (drop k slots) → IsNextEntry slots k n p t → IsNextEntry slots from n p t
   next_entry-step slots from k n p t same next = record { index = next.index; stored = next.stored; first = same ∙ next.first }

@@ -12,7 +12,6 @@ use Rattle.arena_base.proofs.SlotLemmas.{slice_get-set-other}
 use Rattle.arena_base.proofs.SoundnessLemmas.{lent, closed}
 use Rattle.arena_base.proofs.ArenaModelLemmas.{lent_view}
 
--- The first of three writes is undone by the third.
 pub set_thrice : {X : Type 0} (xs : List X) (k m : ℕ) (x y z : X) → k ≢ m → slice_set (slice_set (slice_set xs k x) m y) k z ≡ slice_set (slice_set xs k z) m y
 set_thrice [] k m x y z apart = refl
 set_thrice (w ∷ xs) zero zero x y z apart = absurd (apart refl)
@@ -25,7 +24,6 @@ set_thrice (w ∷ xs) (suc k) zero x y z apart = ap (λ zs. y ∷ zs) (set_twice
     set_twice (w ∷ xs) (suc k) x z = ap (λ zs. w ∷ zs) (set_twice xs k x z)
 set_thrice (w ∷ xs) (suc k) (suc m) x y z apart = ap (λ zs. w ∷ zs) (set_thrice xs k m x y z (λ is. apart (ap suc is)))
 
--- An optional pair determines its parts.
 pub same_entry : {Gen T : Type 0} (e : Gen × T) (g : Gen) (t : T) → Some e ≡ Some (g, t) → (e.0 ≡ g) × (e.1 ≡ t)
 same_entry e g t is = let same : e ≡ (g, t) = cc in (ap (λ p. p.0) same, ap (λ p. p.1) same)
 
@@ -52,7 +50,6 @@ module _ {P T Inx Gen Word : Type 0} (number : PackedOption Inx Word → Option 
       ∙ ap (λ (a : Arena Gen T). with_value a j t) (lent_view number s counter capacity maximum placed touched k i (allocated_slot g t) u once capacity maximum at first refl refl refl)
 
 module _ {Gen T : Type 0} (a : Arena Gen T) where
-  -- A value written where it is changes nothing.
   pub written_itself : (i : ℕ) (g : Gen) (t : T) → entry_at a i ≡ Some (g, t) → with_value a i t ≡ a
   written_itself zero g t is = refl
   written_itself (suc k) g t is = λ j. record a { slots = (ap (λ o. slice_set a.slots k (option_map (λ (e : Gen × T). (e.0, t)) o)) is ∙ slice_set-there a.slots k (Some (g, t)) is) j }
@@ -62,11 +59,9 @@ module _ {Gen T : Type 0} (a : Arena Gen T) where
       slice_set-there (y ∷ xs) zero x is = ap (λ z. z ∷ xs) (sym is)
       slice_set-there (y ∷ xs) (suc k) x is = ap (λ zs. y ∷ zs) (slice_set-there xs k x is)
 
-  -- The view after both values are written.
   pub exchanged_arena : (b : Arena Gen T) (i j : ℕ) (t u : T) → b ≡ with_value (with_value a i u) j t → view_of b ≡ view_with_value (view_with_value (view_of a) i u) j t
   exchanged_arena b i j t u is = ap view_of is ∙ (viewed_written (with_value a i u) j t ∙ ap (λ s. view_with_value s j t) (viewed_written a i u))
 
-  -- Of one entry, the exchange changes nothing.
   pub exchanged_itself : (p q : ℕ × Gen) (t u : T) → p.0 ≡ q.0 → entry_at a p.0 ≡ Some (p.1, t) → entry_at a q.0 ≡ Some (q.1, u) → a ≡ with_value (with_value a p.0 u) q.0 t
   exchanged_itself p q t u same first second =
       let equal : t ≡ u = (same_entry (p.1, t) q.1 u (sym first ∙ (ap (entry_at a) same ∙ second))).1 in

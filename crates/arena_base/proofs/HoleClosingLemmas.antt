@@ -16,20 +16,17 @@ use Rattle.arena_base.specs.GatheredSlots.{with_front, AreClosed, with_totals}
 use Rattle.arena_base.proofs.TrimLemmas.{drop-at}
 
 module _ {X : Type 0} where
-  -- A slot after free ones is freed.
   freed_behind : (n k : ℕ) (slot : Option X) (rest : List (Option X)) → n ≡ k → slice_set (replicate n None ++ slot ∷ rest) k None ≡ replicate (suc n) None ++ rest
   freed_behind zero zero slot rest at = refl
   freed_behind zero (suc k) slot rest at = absurd (omega (arith, at))
   freed_behind (suc n) zero slot rest at = absurd (omega (arith, at))
   freed_behind (suc n) (suc k) slot rest at = ap (λ es. None ∷ es) (freed_behind n k slot rest (omega (arith, at)))
 
-  -- A free slot is passed.
   free_passed : (n : ℕ) (rest : List (Option X)) → replicate n None ++ None ∷ rest ≡ replicate (suc n) None ++ rest
   free_passed zero rest = refl
   free_passed (suc n) rest = ap (λ es. None ∷ es) (free_passed n rest)
 
 module _ {Gen T : Type 0} (g : Gen) where
-  -- The next slot to pass.
   next_slot_there : (values : List T) (n k : ℕ) (slot : Option (Gen × T)) (rest : List (Option (Gen × T))) → length values + n ≡ k → slice_index_or (with_front g values (replicate n None ++ slot ∷ rest)) k None ≡ slot
   next_slot_there [] zero zero slot rest at = refl
   next_slot_there [] zero (suc k) slot rest at = absurd (omega (arith, at))
@@ -38,18 +35,15 @@ module _ {Gen T : Type 0} (g : Gen) where
   next_slot_there (v ∷ values) n zero slot rest at = absurd (omega (arith, at))
   next_slot_there (v ∷ values) n (suc k) slot rest at = next_slot_there values n k slot rest (omega (arith, at))
 
-  -- A free slot after the front.
   free_behind : (values : List T) (n : ℕ) (rest : List (Option (Gen × T))) → 1 ≤ n → slice_index_or (with_front g values (replicate n None ++ rest)) (length values) None ≡ None
   free_behind [] zero rest some = absurd (omega (arith, some))
   free_behind [] (suc n) rest some = refl
   free_behind (v ∷ values) n rest some = free_behind values n rest some
 
-  -- The first slot after the front.
   slot_behind : (values : List T) (slot : Option (Gen × T)) (rest : List (Option (Gen × T))) → slice_index_or (with_front g values (slot ∷ rest)) (length values) None ≡ slot
   slot_behind [] slot rest = refl
   slot_behind (v ∷ values) slot rest = slot_behind values slot rest
 
-  -- The next slot is swapped with the first one after the front, which is then written.
   brought : (values : List T) (n k : ℕ) (slot x : Option (Gen × T)) (rest : List (Option (Gen × T))) → length values + n ≡ k
       → slice_set (slice_set (with_front g values (replicate n None ++ slot ∷ rest)) k (slice_index_or (with_front g values (replicate n None ++ slot ∷ rest)) (length values) None)) (length values) x
       ≡ with_front g values (x ∷ (replicate n None ++ rest))
@@ -60,12 +54,10 @@ module _ {Gen T : Type 0} (g : Gen) where
   brought (v ∷ values) n zero slot x rest at = absurd (omega (arith, at))
   brought (v ∷ values) n (suc k) slot x rest at = ap (λ (es : List (Option (Gen × T))). Some (g, v) ∷ es) (brought values n k slot x rest (omega (arith, at)))
 
-  -- One more value is at the front.
   joined : (values : List T) (t w : T) (rest : List (Option (Gen × T))) → slice_set (with_front g values (Some (g, t) ∷ rest)) (length values) (Some (g, w)) ≡ with_front g (values ++ w ∷ []) rest
   joined [] t w rest = refl
   joined (v ∷ values) t w rest = ap (λ (es : List (Option (Gen × T))). Some (g, v) ∷ es) (joined values t w rest)
 
-  -- Placing the next entry puts it at the end of the front.
   placed_fronted : (values : List T) (n k from to : ℕ) (slots rest : List (Option (Gen × T))) (e : Gen × T) → slots ≡ with_front g values (replicate n None ++ Some e ∷ rest) → length values + n ≡ k → suc k ≡ from → suc (length values) ≡ to
       → with_slot (with_slot slots from (slot_at slots to)) to (option_map (λ (x : Gen × T). (g, x.1)) (slot_at slots from)) ≡ with_front g values (Some (g, e.1) ∷ (replicate n None ++ rest))
   placed_fronted values n k from to slots rest e is at at_from at_to =
@@ -75,7 +67,6 @@ module _ {Gen T : Type 0} (g : Gen) where
       ∙ (ap (λ o. slice_set (slice_set old k (slice_index_or old (length values) None)) (length values) (option_map (λ (x : Gen × T). (g, x.1)) o)) (next_slot_there values n k (Some e) rest at)
       ∙ brought values n k (Some e) (Some (g, e.1)) rest at)))
 
-  -- Writing its value then replaces the value there.
   written_fronted : (values : List T) (to : ℕ) (slots rest : List (Option (Gen × T))) (t w : T) → slots ≡ with_front g values (Some (g, t) ∷ rest) → suc (length values) ≡ to
       → with_slot slots to (option_map (λ (x : Gen × T). (x.0, w)) (slot_at slots to)) ≡ with_front g (values ++ w ∷ []) rest
   written_fronted values to slots rest t w is at =
@@ -84,23 +75,19 @@ module _ {Gen T : Type 0} (g : Gen) where
       ap (written to) is ∙ (ap (λ j. written j old) (sym at)
       ∙ (ap (λ o. slice_set old (length values) (option_map (λ (x : Gen × T). (x.0, w)) o)) (slot_behind values (Some (g, t)) rest) ∙ joined values t w rest))
 
-  -- That value's entry is the last.
   entries-joined : (values : List T) (i j : ℕ) (w : T) → i + length values ≡ j → entries_from i (with_front g (values ++ w ∷ []) []) ≡ entries_from i (with_front g values []) ++ ((j, g), w) ∷ []
   entries-joined [] i j w at = let same : i ≡ j = omega (arith, at) in ap (λ n. ((n, g), w) ∷ []) same
   entries-joined (v ∷ values) i j w at = ap (λ es. ((i, g), v) ∷ es) (entries-joined values (suc i) j w (omega (arith, at)))
 
-  -- Each value has an entry.
   pub length-with_front : (values : List T) (i : ℕ) → length (entries_from i (with_front g values [])) ≡ length values
   length-with_front [] i = refl
   length-with_front (v ∷ values) i = ap suc (length-with_front values (suc i))
 
-  -- Free slots have no entries.
   pub entries-closed : (values : List T) (n i : ℕ) → entries_from i (with_front g values (replicate n None)) ≡ entries_from i (with_front g values [])
   entries-closed [] zero i = refl
   entries-closed [] (suc n) i = entries-closed [] n (suc i)
   entries-closed (v ∷ values) n i = ap (λ es. ((i, g), v) ∷ es) (entries-closed values n (suc i))
 
-  -- Values followed by free slots are packed.
   packed-with_front : (values : List T) (n : ℕ) → IsPacked (with_front g values (replicate n None)) (length values)
   packed-with_front values n = record { taken = λ i low high. taken values i low high; free = λ i above. free values i above }
     where
@@ -127,7 +114,6 @@ module _ {Gen T : Type 0} (g : Gen) where
       free values zero above = refl
       free values (suc k) above = free_at values k (omega (arith, above))
 
--- A slot with a generation has an entry.
 entry_there : {Gen T : Type 0} (o : Option (Gen × T)) (g : Gen) → Some g ≡ option_map (λ (e : Gen × T). e.0) o → (e : Gen × T) × (o ≡ Some e) × (e.0 ≡ g)
 entry_there None g is = cc
 entry_there (Some e) g is = (e, refl, cc)
@@ -160,18 +146,15 @@ pub record IsClosing {F P T Gen : Type 0} (g : Mut F (P × (MutBor T × (P × Un
   pub passed : count + free ≡ k
 
 module _ {F P T Gen : Type 0} (g : Mut F (P × (MutBor T × (P × Unit {0}))) (Unit {0} × (MutBor T × Unit {0}))) (key : P → ℕ × Gen) (generation : Gen) (first : F) (old : List (Option (Gen × T))) where
-  -- The number of slots stays.
   pub closing_length : (k count : ℕ) (f : F) (slots : List (Option (Gen × T))) (c : IsClosing g key generation first old k count f slots) → k ≤ length old → length slots ≡ length old
   closing_length k count f slots c below =
       let front = length-append (map (λ (t : T). let o : Option (Gen × T) = Some (generation, t) in o) c.values) (replicate c.free None ++ drop k old) in
       let rest = length-append (replicate {A = Option (Gen × T)} c.free None) (drop k old) in
       ap length c.now ∙ omega (arith, front, rest, length-map c.values (λ (t : T). let o : Option (Gen × T) = Some (generation, t) in o), length-replicate {A = Option (Gen × T)} c.free None, length-drop k old, c.counted, c.passed, below)
 
-  -- The initial state.
   pub closing_begins : IsClosing g key generation first old 0 0 first old
   closing_begins = record { visits = []; values = []; free = 0; in_turn = refl; before = refl; after = refl; now = refl; counted = refl; passed = refl }
 
-  -- The slot after the front is the next one, or free.
   pub closing_free : (k count : ℕ) (f : F) (slots : List (Option (Gen × T))) → IsClosing g key generation first old k count f slots → (from to : ℕ) → from ≡ k + 1 → to ≡ count + 1 → to ≢ from → slot_at slots to ≡ None
   closing_free k count f slots c from to at_from at_to differs =
       let next : suc (length c.values) ≡ to = omega (arith, at_to, c.counted) in
@@ -185,14 +168,12 @@ module _ {F P T Gen : Type 0} (g : Mut F (P × (MutBor T × (P × Unit {0}))) (U
     split_slots : (slot : Option (Gen × T)) (is : drop k old ≡ slot ∷ drop (suc k) old) → slots ≡ with_front generation c.values (replicate c.free None ++ slot ∷ drop (suc k) old)
     split_slots slot is = c.now ∙ ap (λ es. with_front generation c.values (replicate c.free None ++ es)) is
 
-    -- The next slot is the old one.
     pub next_slot : (n : ℕ) → n ≡ k + 1 → slot_at slots n ≡ slice_index_or old k None
     next_slot n at =
         let next : suc k ≡ n = omega (arith, at) in
         sym (ap (slot_at slots) next) ∙ (ap (λ es. slice_index_or es k None) (split_slots (slice_index_or old k None) (drop-at old k below))
         ∙ next_slot_there generation c.values c.free k (slice_index_or old k None) (drop (suc k) old) (omega (arith, c.counted, c.passed)))
 
-    -- A free slot is passed.
     pub closing_frees : (from : ℕ) → from ≡ k + 1 → slot_at slots from ≡ None → IsClosing g key generation first old (k + 1) count f slots
     closing_frees from at none =
         let free : slice_index_or old k None ≡ None = sym (next_slot from at) ∙ none in
@@ -236,11 +217,9 @@ module _ {F P T Gen : Type 0} (g : Mut F (P × (MutBor T × (P × Unit {0}))) (U
           let now = with_front generation c.values (Some (generation, moved_entry.0.1) ∷ (replicate c.free None ++ later)) in
           ap (λ es. slot_at es to) is_mid ∙ (sym (ap (slot_at now) to_number) ∙ slot_behind generation c.values (Some (generation, moved_entry.0.1)) (replicate c.free None ++ later))
 
-      -- The entry is in its new slot.
       pub brought_stored : None ≡ option_map (λ (e : Gen × T). e.1) (slot_at mid to) → ⊥
       brought_stored none = let both = none ∙ ap (option_map (λ (e : Gen × T). e.1)) stored in cc
 
-      -- The closure visits the entry there.
       pub closing_moves : (v : Visit P T) (next : F) (after : List (Option (Gen × T))) → Some v.value ≡ option_map (λ (e : Gen × T). e.1) (slot_at mid to)
           → after ≡ with_slot mid to (option_map (λ (e : Gen × T). (e.0, v.left)) (slot_at mid to)) → key v.from ≡ (from, was) → key v.to ≡ (to, generation) → IsVisit g f v next
           → IsClosing g key generation first old (k + 1) (count + 1) next after
@@ -279,7 +258,6 @@ module _ {F P T Gen : Type 0} (g : Mut F (P × (MutBor T × (P × Unit {0}))) (U
     after_all : map (after_visit key) c.visits ≡ entries_from 1 slots
     after_all = c.after ∙ (sym (entries-closed generation c.values c.free 1) ∙ ap (entries_from 1) (sym closed_now))
 
-    -- When all slots are passed, the entries are packed.
     pub closing_packs : IsPacked slots count
     closing_packs = subst (λ (p : List (Option (Gen × T)) × ℕ). IsPacked p.0 p.1) (λ i. (sym closed_now i, c.counted i)) (packed-with_front generation c.values c.free)
 
@@ -300,20 +278,17 @@ module _ {F P T Gen : Type 0} (g : Mut F (P × (MutBor T × (P × Unit {0}))) (U
     }
 
 module _ {Gen T : Type 0} (old now next : Arena Gen T) (k count : ℕ) where
-  -- One more touch.
   pub totals_read : now ≡ with_totals old count (k + count) → next ≡ with_touch now → next ≡ with_totals old count ((k + 1) + count)
   totals_read is was_read =
       let touches : (old.touched + (k + count)) + 1 ≡ old.touched + ((k + 1) + count) = omega arith in
       was_read ∙ (ap with_touch is ∙ (λ i. record old { placed = old.placed + count; touched = touches i }))
 
-  -- One more placement, between two more touches.
   pub totals_brought : (mid : Arena Gen T) → now ≡ with_totals old count (k + count) → mid ≡ with_placement (with_touch now) → next ≡ with_touch mid → next ≡ with_totals old (count + 1) ((k + 1) + (count + 1))
   totals_brought mid is placed was_read =
       let placements : (old.placed + count) + 1 ≡ old.placed + (count + 1) = omega arith in
       let touches : ((old.touched + (k + count)) + 1) + 1 ≡ old.touched + ((k + 1) + (count + 1)) = omega arith in
       was_read ∙ (ap with_touch (placed ∙ ap (λ (a : Arena Gen T). with_placement (with_touch a)) is) ∙ (λ i. record old { placed = placements i; touched = touches i }))
 
--- No work yet.
 pub totals_begin : {Gen T : Type 0} (old : Arena Gen T) → old ≡ with_totals old 0 (0 + 0)
 totals_begin old =
     let placements : old.placed ≡ old.placed + 0 = omega arith in

@@ -24,7 +24,6 @@ module _ {Gen T : Type 0} (old new : Arena Gen T) (t : T) where
     maximum = ap (λ (a : Arena Gen T). a.maximum) state;
   }
 
-  -- Within the capacity, only the entry is new.
   pub same_capacity : new ≡ insert_next old t → new ≡ with_capacity_of (insert_next old t) new
   same_capacity state = state ∙ ap (with_capacity_of (insert_next old t)) (sym state)
 

@@ -11,14 +11,12 @@ use Rattle.arena_base.specs.declared.slot.ArenaSlot.TheVariants.{Allocated, Free
 use Rattle.arena_base.proofs.TrimLemmas.{map-take}
 
 module _ {X : Type 0} where
-  -- Trimming removes all of the slots if they are free.
   pub all_cut : (xs : List (Option X)) → ((k : ℕ) → slice_index_or xs k None ≡ None) → without_free_end xs ≡ []
   all_cut [] none = refl
   all_cut (x ∷ xs) none =
       let first : x ≡ None = none 0 in
       ap (λ (o : Option X). before_cut o (without_free_end xs)) first ∙ ap (before_cut None) (all_cut xs (λ k. none (suc k)))
 
-  -- A taken slot has an entry.
   some_there : (x : Option X) → IsSome x → (y : X) × (x ≡ Some y)
   some_there None some = let both : false ≡ true = some in absurd cc
   some_there (Some y) some = (y, refl)
@@ -44,11 +42,9 @@ module _ {X : Type 0} where
     in_front : (k : ℕ) → k < n → IsSome (slice_index_or xs k None)
     in_front k below = packed.taken (suc k) (omega arith) (omega (arith, below))
 
-    -- The first `n` slots remain.
     pub packed-trimmed : without_free_end xs ≡ take n xs
     packed-trimmed = cut_behind n xs in_front (λ k above. packed.free (suc k) (omega (arith, above)))
 
-    -- No free slot remains.
     pub packed-none_free : free_from 1 (without_free_end xs) ≡ []
     packed-none_free = ap (free_from 1) packed-trimmed ∙ none_left n 1 xs in_front
 
@@ -78,15 +74,12 @@ module _ {P T Inx Gen Word : Type 0} where
     front : (k : ℕ) → k < n → IsSome (slice_index_or (map entry_of slots) k None)
     front k below = packed.taken (suc k) (omega arith) (omega (arith, below))
 
-    -- The remaining slots hold the entries.
     pub packed-entries : map entry_of (take n slots) ≡ without_free_end (map entry_of slots)
     packed-entries = map-take slots n ∙ sym (packed-trimmed n (map entry_of slots) packed)
 
-    -- There are at least `n` slots.
     pub packed-within : n ≤ length slots
     packed-within = omega (arith, (taken_count n slots front).1, length-take n slots)
 
-    -- The remaining slots are sound.
     pub packed_sound : (number : PackedOption Inx Word → Option ℕ) (greatest : ℕ) (head : PackedOption Inx Word) → number head ≡ None → length slots ≤ greatest → IsSound number (take n slots) greatest n head []
     packed_sound number greatest head none fits =
         let counts = taken_count n slots front in

@@ -20,7 +20,6 @@ drop-slot [] k x is = cc
 drop-slot (y ∷ xs) zero x is = let same : y ≡ x = cc in ap (λ z. z ∷ xs) same
 drop-slot (y ∷ xs) (suc k) x is = drop-slot xs k x is
 
--- Appending a slot appends its entry, if it has one.
 entries_from-push : {Gen T : Type 0} (slots : List (Option (Gen × T))) (i j : ℕ) (slot : Option (Gen × T)) → i + length slots ≡ j → entries_from i (slots ++ slot ∷ []) ≡ entries_from i slots ++ entries_from j (slot ∷ [])
 entries_from-push [] i j slot at = let same : i ≡ j = omega (arith, at) in ap (λ n. entries_from n (slot ∷ [])) same
 entries_from-push (None ∷ slots) i j slot at = entries_from-push slots (suc i) j slot (omega (arith, at))
@@ -43,7 +42,6 @@ pub record IsCopying {F P U T Inx Gen Word : Type 0} (makes : F → P → U → 
   pub copied : length slots ≡ k
 
 module _ {F P U T Inx Gen Word : Type 0} (makes : F → P → U → T → F → Type 0) (key : P → ℕ × Gen) (first : F) (old : List (ArenaSlot P U Inx Gen Word)) where
-  -- The initial state.
   pub copying_begins : (slots : List (ArenaSlot P T Inx Gen Word)) → slots ≡ [] → IsCopying makes key first old 0 first slots
   copying_begins slots empty = subst (IsCopying makes key first old 0 first) (sym empty) (record { calls = []; in_turn = refl; before = refl; after = refl; alike = refl; copied = refl })
 
@@ -51,7 +49,6 @@ module _ {F P U T Inx Gen Word : Type 0} (makes : F → P → U → T → F → 
     abbrev later : List (ArenaSlot P U Inx Gen Word)
     later = drop (suc k) old
 
-    -- One more slot is alike.
     alike_pushed : (slot : ArenaSlot P U Inx Gen Word) (copy : ArenaSlot P T Inx Gen Word) → slice_get old k ≡ Some slot → without_value copy ≡ without_value slot
         → without_values (slots ++ copy ∷ []) ++ without_values later ≡ without_values old
     alike_pushed slot copy is same =
@@ -63,13 +60,11 @@ module _ {F P U T Inx Gen Word : Type 0} (makes : F → P → U → T → F → 
     length_pushed : (copy : ArenaSlot P T Inx Gen Word) → length (slots ++ copy ∷ []) ≡ suc k
     length_pushed copy = omega (arith, length-append slots (copy ∷ []), c.copied)
 
-    -- The entries after one more slot.
     entries_pushed : (copy : ArenaSlot P T Inx Gen Word) → entries_from 1 (map entry_of (slots ++ copy ∷ [])) ≡ entries_from 1 (map entry_of slots) ++ entries_from (suc k) (entry_of copy ∷ [])
     entries_pushed copy =
         ap (entries_from 1) (map-push slots copy)
         ∙ entries_from-push (map entry_of slots) 1 (suc k) (entry_of copy) (omega (arith, length-map slots entry_of, c.copied))
 
-    -- A free slot is copied.
     pub copying_frees : (next : PackedOption Inx Word) (after : List (ArenaSlot P T Inx Gen Word)) → slice_get old k ≡ Some (free_slot next) → after ≡ slots ++ free_slot next ∷ [] → IsCopying makes key first old (k + 1) f after
     copying_frees next after is pushed =
         let number : suc k ≡ k + 1 = omega arith in
@@ -84,7 +79,6 @@ module _ {F P U T Inx Gen Word : Type 0} (makes : F → P → U → T → F → 
           copied = length_pushed copy;
         }))
 
-    -- An entry is copied.
     pub copying_returns : (generation : Gen) (u : U) (call : Copied P U T) (next : F) (after : List (ArenaSlot P T Inx Gen Word)) → slice_get old k ≡ Some (allocated_slot generation u)
         → call.value ≡ u → key call.pointer ≡ (k + 1, generation) → Makes makes f call next → after ≡ slots ++ allocated_slot generation call.returned ∷ []
         → IsCopying makes key first old (k + 1) next after
@@ -108,7 +102,6 @@ module _ {F P U T Inx Gen Word : Type 0} (makes : F → P → U → T → F → 
           copied = length_pushed copy;
         }))
 
-    -- The value of an entry is refused.
     pub copying_refused : (generation : Gen) (u : U) (p : P) (may_refuse : P → U → Type 0) → slice_get old k ≡ Some (allocated_slot generation u) → key p ≡ (k + 1, generation) → may_refuse p u
         → HasRefusable may_refuse key (entries_from 1 (map entry_of old))
     copying_refused generation u p may_refuse is pointer refused = record {
@@ -139,7 +132,6 @@ module _ {F P U T Inx Gen Word : Type 0} (makes : F → P → U → T → F → 
       }
 
 module _ {P T U Inx Gen Word : Type 0} (number : PackedOption Inx Word → Option ℕ) (a : List (ArenaSlot P U Inx Gen Word)) (b : List (ArenaSlot P T Inx Gen Word)) (alike : without_values b ≡ without_values a) (greatest len : ℕ) (head : PackedOption Inx Word) where
-  -- An arena with slots like the source's, its freed list and its counter.
   pub has_slots_of : IsSound number a greatest len head (freed_of number a head)
       → (source : Arena Gen U) (old mid : Arena Gen T) (counter before : Gen) (ns : List ℕ) (slots : List (ArenaSlot P T Inx Gen Word)) (new_capacity capacity has : ℕ) (limit maximum most : Option ℕ) (p t placed touched n : ℕ) → has ≡ capacity → most ≡ maximum
       → arena_of a (freed_of number a head) counter greatest new_capacity limit p t ≡ source → arena_of slots ns before greatest capacity maximum placed touched ≡ mid
@@ -162,7 +154,6 @@ module _ {P T U Inx Gen Word : Type 0} (number : PackedOption Inx Word → Optio
         within_capacity = λ few. same_capacity ∙ (ap (λ (s : Arena Gen T). s.stack_capacity) is_mid ∙ ap (λ (s : Arena Gen T). s.stack_capacity) (within (omega (arith, few, count, length-map a entry_of, ap (λ (s : Arena Gen U). length s.slots) is_source))));
       }
 
--- An arena that lost its slots when the copy failed.
 pub copy_abandoned : {P T Inx Gen Word : Type 0} (number : PackedOption Inx Word → Option ℕ) (items slots : List (ArenaSlot P T Inx Gen Word)) (head : PackedOption Inx Word) (ns : List ℕ) (counter : Gen) (greatest new_capacity capacity : ℕ) (most maximum : Option ℕ) (placed touched : ℕ) (old mid : Arena Gen T)
     → items ≡ [] → new_capacity ≡ capacity → most ≡ maximum → arena_of slots ns counter greatest capacity maximum placed touched ≡ mid → mid ≡ with_capacity_of old mid
     → IsAbandonedCopy old (arena_of items (freed_of number items head) counter greatest new_capacity most placed touched)
@@ -179,11 +170,9 @@ copy_abandoned {T = T} {Gen = Gen} number items slots head ns counter greatest n
       touched = (ap (λ (s : Arena Gen T). s.touched) same) i;
     })
 
--- The same capacity under equal numbers.
 pub equal_capacity : {greatest n m capacity new_capacity : ℕ} {maximum most : Option ℕ} → n ≡ m → new_capacity ≡ capacity → most ≡ maximum → IsCapacityFor greatest maximum n capacity → IsCapacityFor greatest most m new_capacity
 equal_capacity count same_capacity same_maximum r = rw (← count, same_capacity, same_maximum) r
 
--- The view of a copy.
 pub copy_viewed : {F P T U Gen : Type 0} (makes : F → P → U → T → F → Type 0) (key : P → ℕ × Gen) (f last : F) (source : Arena Gen U) (old new : Arena Gen T)
     → HasSlotsOf source old new → CopiesBy makes key f (entries source) (entries new) last → IsCopyBy makes key f source (view_of old) (view_of new) last
 copy_viewed {T = T} {Gen = Gen} makes key f last source old new has made =
@@ -212,7 +201,6 @@ module _ {V F P U T : Type 0} (makes : V → P → U → T → V → Type 0) (ot
     after = c.after;
   }
 
-  -- The same for the copy of an arena.
   pub copy_by : {Gen : Type 0} (key : P → ℕ × Gen) (f last : V) (source : Arena Gen U) (old new : ArenaView Gen T)
       → IsCopyBy makes key f source old new last → IsCopyBy others key (see f) source old new (see last)
   copy_by key f last source old new copy = record {
@@ -222,12 +210,10 @@ module _ {V F P U T : Type 0} (makes : V → P → U → T → V → Type 0) (ot
     maximum = copy.maximum;
   }
 
--- A fact on `Ok` from two facts.
 pub on_ok_both : {X E A B C : Type 0} (r : Result X E) → (A → B → C) → OnOk r A → OnOk r B → OnOk r C
 on_ok_both (Ok x) both a b = both a b
 on_ok_both (Err e) both a b = tt
 
--- A fact on `Ok` from another.
 pub on_ok : {X E A B : Type 0} (r : Result X E) → (A → B) → OnOk r A → OnOk r B
 on_ok (Ok x) f a = f a
 on_ok (Err e) f a = tt
@@ -236,7 +222,6 @@ pub on_err : {X E A B : Type 0} (r : Result X E) → (A → B) → OnErr r A →
 on_err (Ok x) f a = tt
 on_err (Err e) f a = f a
 
--- A fact on `Err` by cases.
 pub on_err_either : {X E A B C D : Type 0} (r : Result X E) → (A → C) → (B → D) → OnErr r (A ⊎ B) → OnErr r (C ⊎ D)
 on_err_either (Ok x) first second d = tt
 on_err_either (Err e) first second (inl a) = inl (first a)
@@ -247,7 +232,6 @@ on_err_by (Ok x) first second d = tt
 on_err_by (Err e) first second (inl a) = first a
 on_err_by (Err e) first second (inr b) = second b
 
--- The second case of an alternative is replaced.
 pub either_as : {A B C N : Type 0} → (B → C) → (A ⊎ B) × N → (A ⊎ C) × N
 either_as other (inl a, n) = (inl a, n)
 either_as other (inr b, n) = (inr (other b), n)
@@ -256,11 +240,9 @@ pub surely : {A B N : Type 0} → (B → ⊥) → (A ⊎ B) × N → A × N
 surely never (inl a, n) = (a, n)
 surely never (inr b, n) = absurd (never b)
 
--- The view of an arena that lost its slots.
 pub copy_abandoned_viewed : {Gen T : Type 0} (old new : Arena Gen T) → IsAbandonedCopy old new → IsAbandonedView (view_of old) (view_of new)
 copy_abandoned_viewed old new is = ap view_of is
 
--- A fact on a known `Ok` result.
 pub on_ok_is : {X E A : Type 0} (r : Result X E) (x : X) → r ≡ Ok x → OnOk r A → A
 on_ok_is {A = A} r x is holds = subst (λ q. OnOk q A) is holds
 

@@ -26,7 +26,6 @@ module _ {X : Type 0} where
   slice_set-itself (y ∷ xs) zero x is = let e : y ≡ x = cc in ap (λ z. z ∷ xs) (sym e)
   slice_set-itself (y ∷ xs) (suc k) x is = ap (λ zs. y ∷ zs) (slice_set-itself xs k x is)
 
-  -- An item of a list after a push is in the old list or is the new item.
   pub slice_get-push : (xs : List X) (x y : X) (k : ℕ) → slice_get (xs ++ x ∷ []) k ≡ Some y → (slice_get xs k ≡ Some y) ⊎ (x ≡ y)
   slice_get-push [] x y zero is = inr cc
   slice_get-push [] x y (suc k) is = inr cc
@@ -46,7 +45,6 @@ module _ {X : Type 0} where
   item_at-push xs x y zero is = inl is
   item_at-push xs x y (suc k) is = slice_get-push xs x y k is
 
-  -- An index is its position plus one.
   pub at_position : (xs : List X) (k n : ℕ) → k + 1 ≡ n → item_at xs n ≡ slice_get xs k
   at_position xs k n is = let at : suc k ≡ n = omega (arith, is) in subst (λ i. item_at xs i ≡ slice_get xs k) at refl
 
@@ -63,7 +61,6 @@ module _ {P T Inx Gen Word : Type 0} where
   slice_index_or-map (s ∷ slots) zero = refl
   slice_index_or-map (s ∷ slots) (suc k) = slice_index_or-map slots k
 
-  -- The entry at an index is in the slot at its position.
   pub entry_at-position : (slots : List (ArenaSlot P T Inx Gen Word)) (k n : ℕ) → k + 1 ≡ n → slot_at (map entry_of slots) n ≡ entry_in (slice_get slots k)
   entry_at-position slots k n is =
       let at : suc k ≡ n = omega (arith, is) in
@@ -96,7 +93,6 @@ module _ {P T Inx Gen Word : Type 0} where
       let after = sum_by-cons (λ (o : Option (Gen × T)). cond (is_some o) 1 0) (entry_of s) (map entry_of (slots ++ slot ∷ [])) in
       omega (arith, before, after, taken_count-push slots slot)
 
-  -- Setting the generation at a position is a write of that slot.
   pub with_generation_at-set : (slots : List (ArenaSlot P T Inx Gen Word)) (k : ℕ) (slot : ArenaSlot P T Inx Gen Word) (g : Gen) → slice_get slots k ≡ Some slot
       → slice_set slots k (with_generation_in slot g) ≡ with_generation_at slots k g
   with_generation_at-set [] k slot g is = refl
@@ -108,12 +104,10 @@ module _ {P T Inx Gen Word : Type 0} where
   with_generation_at-none (s ∷ slots) zero g is = cc
   with_generation_at-none (s ∷ slots) (suc k) g is = ap (λ zs. s ∷ zs) (with_generation_at-none slots k g is)
 
-  -- A slot without an entry is free, and stays the same.
   pub freed_slot-free : (slot : ArenaSlot P T Inx Gen Word) (next : PackedOption Inx Word) → entry_of slot ≡ None → freed_slot slot next ≡ slot
   freed_slot-free (Allocated g t) next is = cc
   freed_slot-free (Free other) next is = refl
 
-  -- A slot with an entry is freed.
   pub freed_slot-taken : (slot : ArenaSlot P T Inx Gen Word) (next : PackedOption Inx Word) (e : Gen × T) → entry_of slot ≡ Some e → freed_slot slot next ≡ free_slot next
   freed_slot-taken (Allocated g t) next e is = refl
   freed_slot-taken (Free other) next e is = cc
@@ -126,12 +120,10 @@ module _ {P T Inx Gen Word : Type 0} where
       slot_with (Some f) = allocated_slot f.0 f.1
   allocated-entry (Free next) e is = cc
 
-  -- The slot with a given entry.
   pub allocated-at : (o : Option (ArenaSlot P T Inx Gen Word)) (e : Gen × T) → Some e ≡ entry_in o → o ≡ Some (allocated_slot e.0 e.1)
   allocated-at None e is = cc
   allocated-at (Some slot) e is = ap (λ s. Some s) (allocated-entry slot e (sym is))
 
--- The value that is there.
 pub the_value : {X : Type 0} (o : Option X) → IsSome o → (x : X) × (Some x ≡ o)
 the_value None some = let both : false ≡ true = some in cc
 the_value (Some x) some = (x, refl)

@@ -7,7 +7,6 @@ use Rattle.arena_core.specs.SlotStack.{IsWithinMaximum}
 use Rattle.arena_traits.specs.Arena.{Arena, IsMember, AreDistinct, IsListed, IsCapacityFor}
 use Rattle.arena_traits.specs.Entries.{entries_from, entries, index_of, CoverSlots}
 
--- A number is in an append exactly if it is in one of the lists.
 IsMember-append : (xs ys : List ℕ) (n : ℕ) → IsMember xs n ⊎ IsMember ys n → IsMember (xs ++ ys) n
 IsMember-append [] ys n (inl has) = absurd has
 IsMember-append [] ys n (inr has) = has
@@ -20,7 +19,6 @@ IsMember-of [] ys n has = inr has
 IsMember-of (x ∷ xs) ys n (inl same) = inl (inl same)
 IsMember-of (x ∷ xs) ys n (inr has) = elim (IsMember-of xs ys n has) [ inl first ↦ inl (inr first) | inr second ↦ inr second ]
 
--- The append of two disjoint lists of distinct numbers is distinct.
 AreDistinct-append : (xs ys : List ℕ) → AreDistinct xs → AreDistinct ys → ((n : ℕ) → IsMember xs n → IsMember ys n → ⊥) → AreDistinct (xs ++ ys)
 AreDistinct-append [] ys first second none = second
 AreDistinct-append (x ∷ xs) ys first second none = (
@@ -28,7 +26,6 @@ AreDistinct-append (x ∷ xs) ys first second none = (
   AreDistinct-append xs ys first.1 second (λ n here there. none n (inr here) there),
 )
 
--- The capacity suffices for the slots, which are at most the greatest index.
 pub capacity_for : (greatest n capacity : ℕ) (maximum : Option ℕ) → n ≤ capacity → n ≤ greatest → IsWithinMaximum maximum capacity → IsCapacityFor greatest maximum n (min capacity greatest)
 capacity_for greatest n capacity maximum fits most within = record {
   fits = search rules;
@@ -43,7 +40,6 @@ module _ {Gen T : Type 0} where
   abbrev indexes : ℕ → List (Option (Gen × T)) → List ℕ
   indexes i slots = map index_of (entries_from i slots)
 
-  -- No entry has an index below the first slot's.
   indexes-above : (slots : List (Option (Gen × T))) (i n : ℕ) → IsMember (indexes i slots) n → i ≤ n
   indexes-above [] i n has = absurd has
   indexes-above (None ∷ slots) i n has = let above = indexes-above slots (suc i) n has in omega arith
@@ -55,14 +51,12 @@ module _ {Gen T : Type 0} where
   indexes-apart (None ∷ slots) i = indexes-apart slots (suc i)
   indexes-apart (Some e ∷ slots) i = (λ has. let above = indexes-above slots (suc i) i has in absurd (omega (arith, above)), indexes-apart slots (suc i))
 
-  -- The index of an entry has an entry.
   indexes-taken : (slots : List (Option (Gen × T))) (i n : ℕ) → IsMember (indexes i slots) n → (k : ℕ) × (e : Gen × T) × (i + k ≡ n) × (k < length slots) × (slice_index_or slots k None ≡ Some e)
   indexes-taken [] i n has = absurd has
   indexes-taken (None ∷ slots) i n has = let later = indexes-taken slots (suc i) n has in (suc later.0, later.1, omega (arith, later.2), omega (arith, later.3), later.4)
   indexes-taken (Some e ∷ slots) i n (inl same) = (0, e, omega (arith, same), omega arith, refl)
   indexes-taken (Some e ∷ slots) i n (inr has) = let later = indexes-taken slots (suc i) n has in (suc later.0, later.1, omega (arith, later.2), omega (arith, later.3), later.4)
 
-  -- Each index is an entry's or free.
   indexes-all : (slots : List (Option (Gen × T))) (i k n : ℕ) → i + k ≡ n → k < length slots → IsMember (indexes i slots) n ⊎ (slice_index_or slots k None ≡ None)
   indexes-all [] i k n at below = absurd (omega (arith, below))
   indexes-all (None ∷ slots) i zero n at below = inr refl
@@ -103,6 +97,5 @@ module _ {Gen T : Type 0} where
       let here : IsWithin greatest i = (some, omega (arith, fits)) in
       All-cons (λ x. IsWithin greatest (index_of x)) ((i, e.0), e.1) (entries_from (suc i) slots) here (indexes_within slots (suc i) greatest (omega arith) (omega (arith, fits)))
 
-  -- The index of each entry is within the pointer type's range.
   pub entries_within : (slots : List (Option (Gen × T))) (greatest : ℕ) → length slots ≤ greatest → All (λ e. IsWithin greatest (index_of e)) (entries_from 1 slots)
   entries_within slots greatest fits = indexes_within slots 1 greatest (omega arith) (omega (arith, fits))

@@ -22,7 +22,6 @@ module _ {X Y : Type 0} (f : X → Y) where
   item_at-map xs (suc k) = slice_get-map xs k
 
 module _ {P T Inx Gen Word : Type 0} where
-  -- A slot that is free without its value is free.
   free_before : (o : Option (ArenaSlot P T Inx Gen Word)) (next : PackedOption Inx Word) → option_map without_value o ≡ Some (free_slot next) → o ≡ Some (free_slot next)
   free_before None next is = cc
   free_before (Some (Allocated g t)) next is = cc
@@ -32,7 +31,6 @@ module _ {P T Inx Gen Word : Type 0} where
   same_taken (Allocated g t) = refl
   same_taken (Free next) = refl
 
-  -- Slots without their values have as many entries.
   same_count : (slots : List (ArenaSlot P T Inx Gen Word)) → taken_count (without_values slots) ≡ taken_count slots
   same_count [] = refl
   same_count (s ∷ slots) =
@@ -40,21 +38,18 @@ module _ {P T Inx Gen Word : Type 0} where
       let after = sum_by-cons (λ (o : Option (Gen × Unit {0})). cond (is_some o) 1 0) (entry_of (without_value s)) (map entry_of (without_values slots)) in
       omega (arith, before, after, same_taken s, same_count slots)
 
-  -- Slots without their values have the same generations.
   generations_kept : (slots : List (ArenaSlot P T Inx Gen Word)) → generations (map entry_of slots) ≡ generations (map entry_of (without_values slots))
   generations_kept [] = refl
   generations_kept (Allocated g t ∷ slots) = ap (λ gs. Some g ∷ gs) (generations_kept slots)
   generations_kept (Free next ∷ slots) = ap (λ gs. None ∷ gs) (generations_kept slots)
 
 module _ {P T U Inx Gen Word : Type 0} (a : List (ArenaSlot P U Inx Gen Word)) (b : List (ArenaSlot P T Inx Gen Word)) (alike : without_values b ≡ without_values a) where
-  -- The numbers of slots are equal.
   pub same_length : length b ≡ length a
   same_length = sym (length-map b without_value) ∙ (ap length alike ∙ length-map a without_value)
 
   pub same_generations : generations (map entry_of b) ≡ generations (map entry_of a)
   same_generations = generations_kept b ∙ (ap (λ s. generations (map entry_of s)) alike ∙ sym (generations_kept a))
 
-  -- A slot free in one is free in the other, with the same next.
   free_too : (n : ℕ) (next : PackedOption Inx Word) → item_at a n ≡ Some (free_slot next) → item_at b n ≡ Some (free_slot next)
   free_too n next is =
       free_before (item_at b n) next
@@ -65,7 +60,6 @@ module _ {P T U Inx Gen Word : Type 0} (a : List (ArenaSlot P U Inx Gen Word)) (
   linked_too number (n ∷ ns) head l = (l.0, l.1, free_too n l.0 l.2, linked_too number ns l.0 l.3)
 
 module _ {P T U Inx Gen Word : Type 0} (number : PackedOption Inx Word → Option ℕ) {a : List (ArenaSlot P U Inx Gen Word)} {b : List (ArenaSlot P T Inx Gen Word)} (alike : without_values b ≡ without_values a) where
-  -- The other slots are sound with the same freed list.
   pub sound_too : {greatest len : ℕ} {head : PackedOption Inx Word} {ns : List ℕ} → IsSound number a greatest len head ns → IsSound number b greatest len head ns
   sound_too {head = head} {ns = ns} s = record {
     linked = linked_too a b alike number ns head s.linked;

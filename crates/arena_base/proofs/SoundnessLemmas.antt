@@ -11,12 +11,10 @@ use Rattle.arena_base.specs.declared.slot.ArenaSlot.TheVariants.{Allocated, Free
 use Rattle.arena_base.proofs.SlotLemmas.{slice_get-set-same, slice_set-itself, item_at-set-other, item_at-push, at_position, taken_count-set, taken_count-push}
 
 module _ {P T Inx Gen Word : Type 0} where
-  -- A slot with an entry is not free.
   not_free : (slot : ArenaSlot P T Inx Gen Word) (g : Gen) (t : T) (next : PackedOption Inx Word) → slot ≡ Allocated g t → Some slot ≡ Some (free_slot next) → ⊥
   not_free slot g t next taken free = cc
 
 module _ {P T Inx Gen Word : Type 0} (number : PackedOption Inx Word → Option ℕ) where
-  -- A slot in the freed list is free.
   pub listed_is_free : (slots : List (ArenaSlot P T Inx Gen Word)) (ns : List ℕ) (head : PackedOption Inx Word) (n : ℕ) → IsFreeList number slots ns head → IsMember ns n → (next : PackedOption Inx Word) × (item_at slots n ≡ Some (free_slot next))
   listed_is_free slots [] head n l has = absurd has
   listed_is_free slots (m ∷ ns) head n l (inl same) = (l.0, subst (λ k. item_at slots k ≡ Some (free_slot l.0)) same l.2)
@@ -32,7 +30,6 @@ module _ {P T Inx Gen Word : Type 0} (number : PackedOption Inx Word → Option 
   IsFreeList-set slots k slot (n ∷ ns) head out l =
       (l.0, l.1, item_at-set-other slots k n slot (λ e. out (inl (sym e))) ∙ l.2, IsFreeList-set slots k slot ns l.0 (λ h. out (inr h)) l.3)
 
-  -- A walk along the freed list yields it.
   pub walked : (slots : List (ArenaSlot P T Inx Gen Word)) (ns : List ℕ) (most : ℕ) (head : PackedOption Inx Word) → IsFreeList number slots ns head → length ns ≤ most → freed_from number slots most (number head) ≡ ns
   walked slots [] zero head l few = refl
   walked slots [] (suc most) head l few = ap (freed_from number slots (suc most)) l
@@ -45,11 +42,9 @@ module _ {P T Inx Gen Word : Type 0} (number : PackedOption Inx Word → Option 
     pub walked_all : freed_of number slots head ≡ ns
     walked_all = walked slots ns (length slots) head s.linked (omega (arith, s.total))
 
-    -- The invariant of an arena.
     pub closed : IsSound number slots greatest len head (freed_of number slots head)
     closed = subst (IsSound number slots greatest len head) (sym walked_all) s
 
-    -- The slot of an entry is freed.
     pub slot_vacated : (k i : ℕ) (first : PackedOption Inx Word) (g : Gen) (t : T) (left : ℕ) → number first ≡ Some i → k + 1 ≡ i → slice_get slots k ≡ Some (allocated_slot g t) → left + 1 ≡ len
         → IsSound number (slice_set slots k (free_slot head)) greatest left first (i ∷ ns)
     slot_vacated k i first g t left names at is one =
@@ -73,7 +68,6 @@ module _ {P T Inx Gen Word : Type 0} (number : PackedOption Inx Word → Option 
           fits = omega (arith, s.fits, length-set slots k (free_slot head));
         }
 
-    -- An entry is overwritten.
     pub rewritten : (k : ℕ) (g new_g : Gen) (t new_t : T) → slice_get slots k ≡ Some (allocated_slot g t)
         → IsSound number (slice_set slots k (allocated_slot new_g new_t)) greatest len head ns
     rewritten k g new_g t new_t is =
@@ -91,7 +85,6 @@ module _ {P T Inx Gen Word : Type 0} (number : PackedOption Inx Word → Option 
           fits = omega (arith, s.fits, length-set slots k slot);
         }
 
-  -- An entry is written into the first freed slot.
   pub filled_freed : {slots : List (ArenaSlot P T Inx Gen Word)} {greatest len : ℕ} {head : PackedOption Inx Word} {ns : List ℕ} (i : ℕ) (next : PackedOption Inx Word) (k : ℕ) (g : Gen) (t : T)
       → IsSound number slots greatest len head ns → number head ≡ Some i → k + 1 ≡ i → slice_get slots k ≡ Some (free_slot next)
       → IsSound number (slice_set slots k (allocated_slot g t)) greatest (len + 1) next (without_first ns) × (ns ≡ i ∷ without_first ns)
@@ -123,7 +116,6 @@ module _ {P T Inx Gen Word : Type 0} (number : PackedOption Inx Word → Option 
       elsewhere m away (inl here) = absurd (away here)
       elsewhere m away (inr has) = has
 
-  -- An entry is appended if no slot is free.
   pub filled_next : {slots : List (ArenaSlot P T Inx Gen Word)} {greatest len : ℕ} {head : PackedOption Inx Word} {ns : List ℕ} (g : Gen) (t : T)
       → IsSound number slots greatest len head ns → number head ≡ None → length slots < greatest
       → IsSound number (slots ++ allocated_slot g t ∷ []) greatest (len + 1) head [] × (ns ≡ [])
@@ -149,32 +141,26 @@ module _ {P T Inx Gen Word : Type 0} (number : PackedOption Inx Word → Option 
   none_listed [] (suc k) next empty is = cc
   none_listed (s ∷ slots) (suc k) next empty is = cc
 
-  -- An empty list of slots is sound.
   pub none_sound : (slots : List (ArenaSlot P T Inx Gen Word)) (greatest : ℕ) (head : PackedOption Inx Word) → number head ≡ None → slots ≡ [] → IsSound number slots greatest 0 head (freed_of number slots head)
   none_sound [] greatest head none is = record { linked = none; apart = tt; covers = λ n next free. absurd (none_listed [] n next refl free); counted = refl; total = refl; fits = omega arith }
   none_sound (s ∷ slots) greatest head none is = cc
 
-  -- The next insertion takes the first freed slot.
   pub first_freed : {slots : List (ArenaSlot P T Inx Gen Word)} {greatest len : ℕ} {head : PackedOption Inx Word} {ns : List ℕ} (i : ℕ) → IsSound number slots greatest len head ns → number head ≡ Some i → (count : ℕ) → i ≡ first_or_next ns count
   first_freed {ns = []} i s first count = let none : Some i ≡ None = sym first ∙ s.linked in cc
   first_freed {ns = n ∷ ns} i s first count = let firsts : Some i ≡ Some n = sym first ∙ s.linked.1 in cc
 
-  -- The next insertion takes a new slot if none is freed.
   pub first_new : {slots : List (ArenaSlot P T Inx Gen Word)} {greatest len : ℕ} {head : PackedOption Inx Word} {ns : List ℕ} → IsSound number slots greatest len head ns → number head ≡ None → (count : ℕ) → count + 1 ≡ first_or_next ns count
   first_new {ns = []} s none count = refl
   first_new {ns = n ∷ ns} s none count = let some : None ≡ Some n = sym none ∙ s.linked.1 in cc
 
-  -- Without freed slots there are as many entries as slots.
   pub none_freed : {slots : List (ArenaSlot P T Inx Gen Word)} {greatest len : ℕ} {head : PackedOption Inx Word} {ns : List ℕ} → IsSound number slots greatest len head ns → number head ≡ None → len ≡ length slots
   none_freed {ns = []} s none = omega (arith, s.total)
   none_freed {ns = n ∷ ns} s none = let some : None ≡ Some n = sym none ∙ s.linked.1 in cc
 
-  -- If there is an entry, the count is positive.
   pub some_taken : {slots : List (ArenaSlot P T Inx Gen Word)} {greatest len : ℕ} {head : PackedOption Inx Word} {ns : List ℕ} → IsSound number slots greatest len head ns
       → (k : ℕ) (g : Gen) (t : T) → slice_get slots k ≡ Some (allocated_slot g t) → 1 ≤ len
   some_taken {slots = slots} {head = head} s k g t is = omega (arith, s.counted, taken_count-set slots k (allocated_slot g t) (free_slot head) is)
 
-  -- A value is written.
   pub lent : {slots : List (ArenaSlot P T Inx Gen Word)} {greatest len : ℕ} {head : PackedOption Inx Word} {ns : List ℕ} (k : ℕ) (slot : ArenaSlot P T Inx Gen Word) (w : T)
       → IsSound number slots greatest len head ns → slice_get slots k ≡ Some slot → IsSound number (slice_set slots k (with_value_in slot w)) greatest len head ns
   lent k (Allocated g t) w s is = rewritten s k g g t w is

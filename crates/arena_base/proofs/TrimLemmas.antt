@@ -17,7 +17,6 @@ module _ {X : Type 0} where
   keep None m xs = refl
   keep (Some x) m xs = refl
 
-  -- Slots that end in an entry stay.
   pub without_free_end-ends : (xs : List (Option X)) (k : ℕ) (x : X) → slice_index_or xs k None ≡ Some x → without_free_end (take (suc k) xs) ≡ take (suc k) xs
   without_free_end-ends [] k x is = cc
   without_free_end-ends (s ∷ xs) zero x is =
@@ -25,7 +24,6 @@ module _ {X : Type 0} where
   without_free_end-ends (s ∷ []) (suc k) x is = cc
   without_free_end-ends (s ∷ m ∷ xs) (suc k) x is = ap (before_cut s) (without_free_end-ends (m ∷ xs) k x is) ∙ keep s m (take k xs)
 
-  -- A free slot at the end is removed.
   pub without_free_end-cut : (xs : List (Option X)) (k : ℕ) → k < length xs → slice_index_or xs k None ≡ None → without_free_end (take (suc k) xs) ≡ without_free_end (take k xs)
   without_free_end-cut [] k below is = absurd (omega (arith, below))
   without_free_end-cut (s ∷ xs) zero below is = ap (λ o. before_cut o (without_free_end (take 0 xs))) is
@@ -74,7 +72,6 @@ module _ {P T Inx Gen Word : Type 0} where
   map-take (s ∷ slots) zero = refl
   map-take (s ∷ slots) (suc k) = ap (λ es. entry_of s ∷ es) (map-take slots k)
 
-  -- One step of trimming.
   pub cut_more : (slots : List (ArenaSlot P T Inx Gen Word)) (k n : ℕ) → k + 1 ≡ n → k < length slots → is_none (entry_in (slice_get slots k)) ≡ true → without_free_end (take n (map entry_of slots)) ≡ without_free_end (map entry_of slots)
       → without_free_end (take k (map entry_of slots)) ≡ without_free_end (map entry_of slots)
   cut_more slots k n at below free rest =
@@ -82,7 +79,6 @@ module _ {P T Inx Gen Word : Type 0} where
       sym (without_free_end-cut (map entry_of slots) k (omega (arith, below, length-map slots entry_of)) (slice_index_or-map slots k ∙ none_of (entry_in (slice_get slots k)) free))
       ∙ (ap (λ m. without_free_end (take m (map entry_of slots))) next ∙ rest)
 
-  -- Trimming ends after an entry.
   pub cut_ends : (slots : List (ArenaSlot P T Inx Gen Word)) (k n : ℕ) → k + 1 ≡ n → is_none (entry_in (slice_get slots k)) ≡ false → without_free_end (take n (map entry_of slots)) ≡ without_free_end (map entry_of slots)
       → map entry_of (take n slots) ≡ without_free_end (map entry_of slots)
   cut_ends slots k n at taken rest =
@@ -91,7 +87,6 @@ module _ {P T Inx Gen Word : Type 0} where
       map-take slots n ∙ (ap (λ m. take m (map entry_of slots)) (sym next) ∙ (sym (without_free_end-ends (map entry_of slots) k entry.0 (slice_index_or-map slots k ∙ entry.1))
       ∙ (ap (λ m. without_free_end (take m (map entry_of slots))) next ∙ rest)))
 
-  -- Trimming leaves no slots.
   pub cut_all : (slots : List (ArenaSlot P T Inx Gen Word)) (n : ℕ) → n ≡ 0 → without_free_end (take n (map entry_of slots)) ≡ without_free_end (map entry_of slots) → map entry_of (take n slots) ≡ without_free_end (map entry_of slots)
   cut_all slots n none rest =
       map-take slots n ∙ (ap (λ m. take m (map entry_of slots)) none ∙ (ap (λ m. without_free_end (take m (map entry_of slots))) (sym none) ∙ rest))
@@ -110,7 +105,6 @@ module _ {P T Inx Gen Word : Type 0} (number : PackedOption Inx Word → Option 
     within : k < length entries
     within = omega (arith, below, length-map slots entry_of, ap length l.same)
 
-    -- An entry is counted.
     pub listing_counts : (e : Gen × T) → entry_in (slice_get slots k) ≡ Some e → IsListing slots entries k (len + 1) head
     listing_counts e is =
         let taken = drop-at entries k within ∙ ap (λ o. o ∷ drop (suc k) entries) (entry_there ∙ is) in
@@ -122,7 +116,6 @@ module _ {P T Inx Gen Word : Type 0} (number : PackedOption Inx Word → Option 
           counted = omega (arith, l.counted, ap (count_by is_some) rest, ap (count_by is_some) taken, sum_by-cons (λ (o : Option (Gen × T)). cond (is_some o) 1 0) (Some e) (drop (suc k) entries));
         }
 
-    -- A free slot is listed.
     pub listing_lists : (old first : PackedOption Inx Word) → slice_get slots k ≡ Some (free_slot old) → number first ≡ Some (suc k) → IsListing (slice_set slots k (free_slot head)) entries k len first
     listing_lists old first is names =
         let free = drop-at entries k within ∙ ap (λ o. o ∷ drop (suc k) entries) (entry_there ∙ ap entry_in is) in
@@ -141,7 +134,6 @@ module _ {P T Inx Gen Word : Type 0} (number : PackedOption Inx Word → Option 
         unchanged (e ∷ es) zero none = ap (λ o. o ∷ es) (sym none)
         unchanged (e ∷ es) (suc j) none = ap (λ fs. e ∷ fs) (unchanged es j none)
 
-  -- Completely listed slots are sound.
   pub listing_ends : {slots : List (ArenaSlot P T Inx Gen Word)} {entries : List (Option (Gen × T))} {len greatest : ℕ} {head : PackedOption Inx Word} → IsListing slots entries 0 len head → length slots ≤ greatest
       → IsSound number slots greatest len head (free_from 1 entries)
   listing_ends {slots = slots} {entries = entries} {len = len} l few =
@@ -162,7 +154,6 @@ module _ {P T Inx Gen Word : Type 0} (number : PackedOption Inx Word → Option 
           free_from-has entries 1 k (suc k) (omega arith) (omega (arith, below, length-map slots entry_of, ap length l.same))
           (ap (λ es. slice_index_or es k None) (sym l.same) ∙ (slice_index_or-map slots k ∙ ap entry_in free))
 
-  -- A listing step at a free slot.
   pub listing_frees : {slots items : List (ArenaSlot P T Inx Gen Word)} {entries : List (Option (Gen × T))} {n len : ℕ} {head : PackedOption Inx Word} → IsListing slots entries n len head
       → (k : ℕ) (first : PackedOption Inx Word) → k + 1 ≡ n → k < length slots → is_none (entry_in (slice_get slots k)) ≡ true → number first ≡ Some (k + 1) → items ≡ slice_set slots k (free_slot head)
       → IsListing items entries k len first
@@ -173,7 +164,6 @@ module _ {P T Inx Gen Word : Type 0} (number : PackedOption Inx Word → Option 
       subst (λ es. IsListing es entries k len first) (sym written)
       (listing_lists l k (omega (arith, at)) below old.0 first (slot.1 ∙ ap (λ s. Some s) old.1) (names ∙ ap (λ m. Some m) next))
 
-  -- A listing step at an entry.
   pub listing_takes : {slots : List (ArenaSlot P T Inx Gen Word)} {entries : List (Option (Gen × T))} {n len : ℕ} {head : PackedOption Inx Word} → IsListing slots entries n len head
       → (k : ℕ) → k + 1 ≡ n → k < length slots → is_none (entry_in (slice_get slots k)) ≡ false → IsListing slots entries k (len + 1) head
   listing_takes {slots = slots} l k at below taken =

@@ -16,12 +16,10 @@ use Rattle.arena_pairs.specs.PairSteps.{passed_value, count_with_chain, Transfer
 
 module _ {P Gen T F : Type 0} (key : P → ℕ × Gen) (following : Gen → Gen) (wraps : Gen → Bool) (call : Mut F (P × (InvalidationOption T × (P × Unit {0}))) T)
     (each : (f : F) (p : P) (value : InvalidationOption T) (q : P) (t : T) (next : F) → Called call f (p, (value, (q, tt))) t next → t ≡ value_in value) where
-  -- Each call returned the value that it was passed.
   kept_in_turn : (links : List (TransferredLink P P T T)) (f last : F) → FoldsTo (IsMapCall key key following wraps call) f links last → FoldsTo (IsMapCall key key following wraps passed_value) tt links tt
   kept_in_turn [] f last calls = refl
   kept_in_turn (c ∷ links) f last calls = (tt, record { met = each f c.from c.value c.to c.returned calls.0 calls.1 }, kept_in_turn links calls.0 last calls.2)
 
-  -- So each link kept its value.
   moved_with_values : (f : F) (p : ℕ × Gen) (q : P) (source source_after old new : Links Gen T) → IsChainTransferred key key following wraps call f p q source source_after old new
       → IsChainTransferred key key following wraps passed_value tt p q source source_after old new
   moved_with_values f p q source source_after old new moved = record {

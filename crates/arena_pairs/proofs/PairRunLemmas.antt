@@ -6,7 +6,6 @@ use Rattle.arena_pairs.specs.declared.calls.PairCall.{PairCall}
 use Rattle.arena_pairs.specs.declared.calls.PairReply.{PairReply}
 
 module _ {P T I Gen W : Type 0} (pointers : PointerKind P I Gen W) where
-  -- One more step.
   run_more : (old between new : LinksPair Gen T) (calls : List (PairCall P T I Gen W)) (replies : List (PairReply P T I Gen W)) (call : PairCall P T I Gen W) (reply : PairReply P T I Gen W)
       → PairRun pointers old calls replies between → PairStep pointers between call reply new
       → PairRun pointers old (calls ++ call ∷ []) (replies ++ reply ∷ []) new
@@ -21,11 +20,9 @@ module _ {P T I Gen W : Type 0} (pointers : PointerKind P I Gen W) where
     pub calls : all ≡ made ++ left
     pub run : PairRun pointers old made replies now
 
-  -- No call is made yet.
   pub pair_under_way_first : (old : LinksPair Gen T) (all left : List (PairCall P T I Gen W)) (replies : List (PairReply P T I Gen W)) → left ≡ all → replies ≡ [] → IsPairUnderWay old old all left replies
   pair_under_way_first old all left replies same none = record { made = []; calls = sym same; run = subst (λ r. PairRun pointers old [] r old) (sym none) refl }
 
-  -- One more call is made.
   pub pair_under_way_more : (old between new : LinksPair Gen T) (all left rest : List (PairCall P T I Gen W)) (replies more : List (PairReply P T I Gen W)) (call : PairCall P T I Gen W) (reply : PairReply P T I Gen W)
       → IsPairUnderWay old between all left replies → left ≡ call ∷ rest → PairStep pointers between call reply new → more ≡ replies ++ reply ∷ [] → IsPairUnderWay old new all rest more
   pair_under_way_more old between new all left rest replies more call reply under_way next step is = record {
@@ -34,7 +31,6 @@ module _ {P T I Gen W : Type 0} (pointers : PointerKind P I Gen W) where
     run = subst (λ r. PairRun pointers old (under_way.made ++ call ∷ []) r new) (sym is) (run_more old between new under_way.made replies call reply under_way.run step);
   }
 
-  -- No call remains.
   pub pair_under_way_last : (old new : LinksPair Gen T) (all left : List (PairCall P T I Gen W)) (replies : List (PairReply P T I Gen W)) → IsPairUnderWay old new all left replies → length left ≡ 0 → PairRun pointers old all replies new
   pair_under_way_last old new all left replies under_way none =
       subst (λ l. PairRun pointers old l replies new) (sym (under_way.calls ∙ (ap (λ l. under_way.made ++ l) (by left none) ∙ append-nil under_way.made))) under_way.run

@@ -10,7 +10,6 @@ use Rattle.arena_ptr.specs.Blocks.{items_in, AreFilled}
 use Rattle.arena_ptr.specs.BlockLaws.{slice_get-left, slice_get-right, none_at_all, take_over, length-items_in}
 
 module _ {E : Type 0} where
-  -- An item is found in its block.
   pub get_in : (blocks : List (Vec E Global)) (n q r : ℕ) → r < 64 → AreFilled blocks n
       → slice_get (items_in blocks) (64 * q + r) ≡ option_and_then (λ (block : Vec E Global). slice_get block.items r) (slice_get blocks q)
   get_in [] n q r small filled = refl
@@ -41,7 +40,6 @@ module _ {E : Type 0} where
 
   -- Replacing a block by `other` of the same capacity.
   module _ (other : Vec E Global) (e : E) where
-    -- Appending to the block of the next item appends to all items.
     pub push_in : (blocks : List (Vec E Global)) (n q r : ℕ) (block : Vec E Global) → r < 64 → n ≡ 64 * q + r → AreFilled blocks n → slice_get blocks q ≡ Some block
         → other.items ≡ block.items ++ e ∷ [] → vec_capacity other ≡ vec_capacity block
         → (items_in (slice_set blocks q other) ≡ items_in blocks ++ e ∷ []) × AreFilled (slice_set blocks q other) (n + 1)
@@ -71,7 +69,6 @@ module _ {E : Type 0} where
           (filled.0 ∙ omega (arith, at), (filled.1.0, subst (AreFilled (slice_set blocks q other)) (let left : (n - 64) + 1 ≡ (n + 1) - 64 = omega (arith, at) in left) behind.1)),
         )
 
-  -- Removing the last item from its block removes it from all items.
   pub pop_in : (other : Vec E Global) (blocks : List (Vec E Global)) (n q r : ℕ) (block : Vec E Global) → r < 64 → n ≡ 64 * q + r → AreFilled blocks (n + 1) → slice_get blocks q ≡ Some block
       → other.items ≡ take r block.items → vec_capacity other ≡ vec_capacity block
       → (items_in (slice_set blocks q other) ≡ take n (items_in blocks)) × AreFilled (slice_set blocks q other) n
@@ -104,7 +101,6 @@ module _ {E : Type 0} where
         (filled.0 ∙ omega (arith, at), (filled.1.0, behind.1)),
       )
 
-  -- The number of items in a block, and its least capacity.
   pub block_in : (blocks : List (Vec E Global)) (n q : ℕ) (block : Vec E Global) → AreFilled blocks n → slice_get blocks q ≡ Some block
       → (length block.items ≡ min (n - 64 * q) 64) × (64 ≤ vec_capacity block)
   block_in [] n q block filled is = cc
@@ -116,7 +112,6 @@ module _ {E : Type 0} where
   block_in (b ∷ blocks) n (suc q) block filled is =
       let behind = block_in blocks (n - 64) q block filled.1.1 is in (behind.0 ∙ omega arith, behind.1)
 
-  -- Appending an empty block keeps all items.
   pub more_in : (other : Vec E Global) (blocks : List (Vec E Global)) (n : ℕ) → other.items ≡ [] → 64 ≤ vec_capacity other → AreFilled blocks n
       → (items_in (blocks ++ other ∷ []) ≡ items_in blocks) × AreFilled (blocks ++ other ∷ []) n
   more_in other [] n none fits filled = (
@@ -127,7 +122,6 @@ module _ {E : Type 0} where
       let behind = more_in other blocks (n - 64) none fits filled.1.1 in
       (ap (λ (xs : List E). b.items ++ xs) behind.0, (filled.0, (filled.1.0, behind.1)))
 
-  -- Dropping blocks without items keeps all items.
   pub fewer_in : (blocks : List (Vec E Global)) (n k : ℕ) → n ≤ 64 * k → AreFilled blocks n → (items_in (take k blocks) ≡ items_in blocks) × AreFilled (take k blocks) n
   fewer_in [] n zero enough filled = (refl, filled)
   fewer_in [] n (suc k) enough filled = (refl, filled)

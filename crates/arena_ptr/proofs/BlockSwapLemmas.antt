@@ -29,7 +29,6 @@ module _ {E : Type 0} (blocks : List (Vec E Global)) (n i j : ℕ) (filled : Are
   long : length (items_in blocks) ≡ n
   long = length-items_in blocks n filled
 
-  -- An item is found in its block.
   finds : (k : ℕ) (block : Vec E Global) (d : E) → slice_get blocks (k / 64) ≡ Some block → k % 64 < length block.items → slice_index_or (items_in blocks) k d ≡ slice_index_or block.items (k % 64) d
   finds k block d found inside =
       let at : 64 * (k / 64) + k % 64 ≡ k = omega arith in
@@ -41,7 +40,6 @@ module _ {E : Type 0} (blocks : List (Vec E Global)) (n i j : ℕ) (filled : Are
       by None = None
       by (Some b) = slice_get b.items (k % 64)
 
-  -- Writing each item at the other's position swaps them.
   exchanged : (x y d : E) → slice_index_or (items_in blocks) i d ≡ x → slice_index_or (items_in blocks) j d ≡ y → slice_set (slice_set (items_in blocks) i y) j x ≡ swap (items_in blocks) i j
   exchanged x y d first second =
       ap₂ (λ (u v : E). slice_set (slice_set (items_in blocks) i u) j v) (sym second) (sym first)

@@ -30,19 +30,15 @@ module _ {E : Type 0} (s : ChunkStack E) (i : ℕ) (e : E) where
       (λ filled fits j. made b (AreFilled-prop (blocks_with b).items s.len filled (with_item_in s i e (Some b) is).filled j) (le_prop fits (with_item_in s i e (Some b) is).fits j))
 
 module _ {E : Type 0} (s : ChunkStack E) where
-  -- Positions of items are below the length.
   pub below : (i : ℕ) → i < length (items_in s.blocks.items) → i < s.len
   below i inside = let long = length-items_in s.blocks.items s.len s.filled in omega (arith, inside, long)
 
-  -- The block of an item exists.
   pub within : (i : ℕ) → i < s.len → i / 64 < vec_len s.blocks
   within i inside = let capacity_is = filled_capacity s.blocks.items s.len s.filled in omega (arith, inside, capacity_is, s.blocks.ok.0)
 
-  -- No item is beyond the length.
   pub past : (i : ℕ) → s.len ≤ i → slice_get (items_in s.blocks.items) i ≡ None
   past i beyond = slice_get_past (items_in s.blocks.items) i (let long = length-items_in s.blocks.items s.len s.filled in omega (arith, beyond, long))
 
-  -- The invariant holds after an empty block is appended, or none.
   pub more_blocks : (block : Vec E Global) (done : Bool) (blocks : List (Vec E Global)) → blocks ≡ (if done then s.blocks.items ++ block ∷ [] else s.blocks.items) → block.items ≡ [] → 64 ≤ vec_capacity block
       → 64 * length s.blocks.items + 65 < 2 ^ 64 → AreFilled blocks s.len × (64 * length blocks + 1 < 2 ^ 64)
   more_blocks block true blocks is none capacity_is few = (
@@ -58,15 +54,12 @@ module _ {E : Type 0} (s : ChunkStack E) where
     pub found : slice_get s.blocks.items (i / 64) ≡ Some block
     found = slice_get_read s.blocks.items s.blocks.len (i / 64) block s.blocks.ok.0 located is
 
-    -- The block has item `i`.
     pub inside_block : i < s.len → i % 64 < vec_len block
     inside_block inside = let has = block_in s.blocks.items s.len (i / 64) block s.filled found in omega (arith, inside, has.0, block.ok.0)
 
-    -- The block has capacity for the next item.
     pub has_capacity : i ≡ s.len → vec_len block < vec_capacity block
     has_capacity at = let has = block_in s.blocks.items s.len (i / 64) block s.filled found in omega (arith, at, has.0, has.1, block.ok.0)
 
-    -- An item found in its block is item `i`.
     pub item_at : (e : E) → i % 64 < vec_len block → e ≡ slice_index_or block.items (i % 64) e → Some e ≡ slice_get (items_in s.blocks.items) i
     item_at e inside item =
         let at : 64 * (i / 64) + i % 64 ≡ i = omega arith in
@@ -74,14 +67,12 @@ module _ {E : Type 0} (s : ChunkStack E) where
         ∙ (ap (option_and_then (λ (b : Vec E Global). slice_get b.items (i % 64))) found ∙ slice_get_read block.items block.len (i % 64) e block.ok.0 inside item)))
 
     module _ (other : Vec E Global) where
-      -- Replacing a block keeps the stack within the size limit.
       pub still_fits : 64 * length (slice_set s.blocks.items (i / 64) other) + 1 < 2 ^ 64
       still_fits = subst (λ (k : ℕ). 64 * k + 1 < 2 ^ 64) (sym (length-set s.blocks.items (i / 64) other)) s.fits
 
       pub written_filled : (e : E) → other.items ≡ slice_set block.items (i % 64) e → vec_capacity other ≡ vec_capacity block → AreFilled (slice_set s.blocks.items (i / 64) other) s.len
       written_filled e made capacity_is = (set_in other e s.blocks.items s.len (i / 64) (i % 64) block (omega arith) s.filled found made capacity_is).1
 
-      -- Appending an item to its block, or removing the last one.
       pub pushed : (e : E) → i ≡ s.len → other.items ≡ block.items ++ e ∷ [] → vec_capacity other ≡ vec_capacity block
           → (items_in (slice_set s.blocks.items (i / 64) other) ≡ items_in s.blocks.items ++ e ∷ []) × AreFilled (slice_set s.blocks.items (i / 64) other) (s.len + 1)
       pushed e at made capacity_is = push_in other e s.blocks.items s.len (i / 64) (i % 64) block (omega arith) (omega (arith, at)) s.filled found made capacity_is
@@ -90,6 +81,5 @@ module _ {E : Type 0} (s : ChunkStack E) where
           → (items_in (slice_set s.blocks.items (i / 64) other) ≡ take i (items_in s.blocks.items)) × AreFilled (slice_set s.blocks.items (i / 64) other) i
       popped at made capacity_is = pop_in other s.blocks.items i (i / 64) (i % 64) block (omega arith) (omega arith) (subst (AreFilled s.blocks.items) (sym at) s.filled) found made capacity_is
 
-    -- Writing a lent item gives `with_item_at`.
     pub same_written : (e : E) (filled : AreFilled (blocks_with s i e block).items s.len) (fits : 64 * length (blocks_with s i e block).items + 1 < 2 ^ 64) → made s i e block filled fits ≡ with_item_at s i e
     same_written e filled fits = same_made s i e (slice_get s.blocks.items (i / 64)) refl block found filled fits

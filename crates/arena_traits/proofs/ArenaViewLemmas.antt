@@ -21,7 +21,6 @@ module _ {Gen T : Type 0} where
   length-entries_from i (Some e ∷ slots) =
       ap suc (length-entries_from (suc i) slots) ∙ omega (arith, sum_by-cons (λ (o : Option (Gen × T)). cond (is_some o) 1 0) (Some e) slots)
 
-  -- An entry in a free slot, or appended, adds one to the count.
   count-push : (slots : List (Option (Gen × T))) (e : Gen × T) → count_by is_some (slots ++ Some e ∷ []) ≡ count_by is_some slots + 1
   count-push [] e = omega (arith, sum_by-cons (λ (o : Option (Gen × T)). cond (is_some o) 1 0) (Some e) [])
   count-push (s ∷ slots) e = omega (arith, sum_by-cons (λ (o : Option (Gen × T)). cond (is_some o) 1 0) s slots, sum_by-cons (λ (o : Option (Gen × T)). cond (is_some o) 1 0) s (slots ++ Some e ∷ []), count-push slots e)
@@ -34,7 +33,6 @@ module _ {Gen T : Type 0} where
       let at = free (suc k) (inl refl) in
       omega (arith, sum_by-set (λ (o : Option (Gen × T)). cond (is_some o) 1 0) slots k (Some e) None (omega (arith, at.2)), ap {B = ℕ} (λ (o : Option (Gen × T)). cond (is_some o) 1 0) at.0)
 
-  -- The entries are as many as counted.
   pub length-entries : (a : Arena Gen T) → length (entries a) ≡ entry_count a
   length-entries a = length-entries_from 1 a.slots
 
@@ -95,7 +93,6 @@ module _ {Gen T : Type 0} where
   entries-replaced f slots zero = sym (replaced-below f 0 1 slots (omega arith))
   entries-replaced f slots (suc k) = entries_from-replaced f (suc k) 1 k slots (omega arith)
 
-  -- The view of an arena from its entries, number of slots, freed list, counter and placements.
   abbrev shape : Arena Gen T → List ((ℕ × Gen) × T) → ℕ → List ℕ → Gen → ℕ → ArenaView Gen T
   shape a es count freed counter placed = record (view_of a) {
     entries = es;
@@ -119,14 +116,12 @@ module _ {Gen T : Type 0} where
   pub viewed_cleared : (following : Gen → Gen) (a : Arena Gen T) → view_of (arena_after_clear following a) ≡ view_after_clear following (view_of a)
   viewed_cleared following a = ap (λ count. shape a [] 0 [] (counter_after_clear following count a.counter) a.placed) (sym (length-entries a))
 
--- A result contains the value it is made from.
 pub value_within-made : {X : Type 0} (overflow : Bool) (o : Option X) → value_within (invalidation_result overflow o) ≡ o
 value_within-made overflow None = refl
 value_within-made false (Some x) = refl
 value_within-made true (Some x) = refl
 
 module _ {Gen T : Type 0} where
-  -- The pointer of an entry that got the next generation.
   pub renewed_key : (following : Gen → Gen) (a b : Arena Gen T) (key : ℕ × Gen) (m made n : ℕ) (g : Gen)
       → key ≡ (made, g) → made ≡ n → m ≡ n → g ≡ following a.counter → b ≡ invalidate_at following a m → (key.0 ≡ n) × (key.1 ≡ following a.counter) × (view_of b ≡ view_after_invalidation (view_of a) key)
   renewed_key following a b key m made n g is at index next after =

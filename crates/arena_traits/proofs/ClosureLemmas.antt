@@ -7,7 +7,6 @@ use denote.Ref.{MutBor}
 use Rattle.arena_traits.specs.Compressions.{Visit, IsVisit, VisitsAll, values_in}
 
 module _ {F P T Gen : Type 0} (g : Mut F (P × (MutBor T × (P × Unit {0}))) (Unit {0} × (MutBor T × Unit {0}))) (key : P → ℕ × Gen) where
-  -- The number of entries stays.
   pub visits_keep_count : {f : F} {old new : List ((ℕ × Gen) × T)} → VisitsAll g key f old new → length new ≡ length old
   visits_keep_count v = sym (ap length v.after) ∙ (length-map v.visits _ ∙ (sym (length-map v.visits _) ∙ ap length v.before))
 
@@ -16,7 +15,6 @@ module _ {F P T Gen : Type 0} (g : Mut F (P × (MutBor T × (P × Unit {0}))) (U
   values_left left [] f last steps = refl
   values_left left (v ∷ visits) f last steps = λ i. left f v steps.0 steps.1 i ∷ values_left left visits steps.0 last steps.2 i
 
-  -- If the closure leaves each value, all values stay.
   pub values_kept : {f : F} {old new : List ((ℕ × Gen) × T)} → ((f : F) (visit : Visit P T) (next : F) → IsVisit g f visit next → visit.left ≡ visit.value) → VisitsAll g key f old new → values_in new ≡ values_in old
   values_kept {f = f} left v =
       ap values_in (sym v.after) ∙ (values_of v.visits ∙ (values_left left v.visits f v.last v.in_turn ∙ (sym (reported_of v.visits) ∙ ap values_in v.before)))

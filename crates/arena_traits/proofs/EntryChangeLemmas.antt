@@ -11,14 +11,12 @@ module _ {Gen T : Type 0} where
   abbrev pub valued : T → Gen × T → Gen × T
   valued t e = (e.0, t)
 
-  -- A write changes the first entry at its index, or else the rest.
   pub writes_first : (i : ℕ) (t : T) (e : (ℕ × Gen) × T) (es : List ((ℕ × Gen) × T)) → e.0.0 ≡ i → with_replacement i (valued t) (e ∷ es) ≡ ((i, e.0.1), t) ∷ es
   writes_first i t e es is = ap (λ b. cond b (((i, e.0.1), t) ∷ es) (e ∷ with_replacement i (valued t) es)) (eq-eqb e.0.0 i is)
 
   pub writes_later : (i : ℕ) (t : T) (e : (ℕ × Gen) × T) (es : List ((ℕ × Gen) × T)) → e.0.0 ≢ i → with_replacement i (valued t) (e ∷ es) ≡ e ∷ with_replacement i (valued t) es
   writes_later i t e es other = ap (λ b. cond b (((i, e.0.1), t) ∷ es) (e ∷ with_replacement i (valued t) es)) (ne_eqb e.0.0 i other)
 
-  -- Lookup finds the new value at the index, and the old ones elsewhere.
   pub found-written : (i : ℕ) (t : T) (es : List ((ℕ × Gen) × T)) → found i (with_replacement i (valued t) es) ≡ option_map (valued t) (found i es)
   found-written i t [] = refl
   found-written i t (e ∷ es) = ⊎_elim

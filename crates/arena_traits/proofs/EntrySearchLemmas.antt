@@ -5,7 +5,6 @@ use Rattle.std.proofs.lemmas.Bool.{cases_eq, eq-eqb, ne_eqb}
 use Rattle.arena_traits.specs.Entries.{found, without_index, AscendsFrom}
 
 module _ {Gen T : Type 0} where
-  -- Lookup returns the first entry at its index, or else searches the rest.
   pub at_first : (e : (ℕ × Gen) × T) (i : ℕ) (es : List ((ℕ × Gen) × T)) → e.0.0 ≡ i → found i (e ∷ es) ≡ Some (e.0.1, e.1)
   at_first e i es is = ap (λ b. cond b (Some (e.0.1, e.1)) (found i es)) (eq-eqb e.0.0 i is)
 
@@ -18,12 +17,10 @@ module _ {Gen T : Type 0} where
   without_later : (e : (ℕ × Gen) × T) (n : ℕ) (es : List ((ℕ × Gen) × T)) → e.0.0 ≢ n → without_index n (e ∷ es) ≡ e ∷ without_index n es
   without_later e n es other = ap (λ b. cond b es (e ∷ without_index n es)) (ne_eqb e.0.0 n other)
 
-  -- An index below the entries has none.
   found-low : (i j : ℕ) (es : List ((ℕ × Gen) × T)) → i < j → AscendsFrom j es → found i es ≡ None
   found-low i j [] below ascends = refl
   found-low i j (e ∷ es) below ascends = past_first e i es (λ is. absurd (omega (arith, is, below, ascends.0))) ∙ found-low i (suc e.0.0) es (omega (arith, below, ascends.0)) ascends.1
 
-  -- The removed index has no entry, and every other index is unchanged.
   pub found-gone : (n j : ℕ) (es : List ((ℕ × Gen) × T)) → AscendsFrom j es → found n (without_index n es) ≡ None
   found-gone n j [] ascends = refl
   found-gone n j (e ∷ es) ascends = ⊎_elim

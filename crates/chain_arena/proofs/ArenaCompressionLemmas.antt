@@ -18,7 +18,6 @@ use Rattle.chain_compaction.specs.LinkCompressions.{ClosesHoles, AreGathered}
 
 module _ {F P T Gen : Type 0} (g : Mut F (P × (MutBor T × (P × Unit {0}))) (Unit {0} × (MutBor T × Unit {0}))) (key : P → ℕ × Gen) (f : F)
     (counter : Gen) (old mid new : Arena Gen (LinkView T)) (is_mid : mid ≡ with_counter old counter) (gathering : AreGathered g key f mid new) where
-  -- The values alone, as if touched as in an arena without interlinks.
   like_gathered : IsGathered g key f (values_of mid) (arena_of_values (values_of mid) gathering.values)
   like_gathered = record {
     values = gathering.values;
@@ -26,7 +25,6 @@ module _ {F P T Gen : Type 0} (g : Mut F (P × (MutBor T × (P × Unit {0}))) (U
     visits = subst (λ es. VisitsAll g key f (entries (values_of mid)) es) (ap (λ (a : Arena Gen T). entries a) gathering.arena) gathering.visits;
   }
 
-  -- The arena is compressed.
   pub links_compressed : (first : Gen) (following : Gen → Gen) (reset : Bool) (count : ℕ) → counter ≡ counter_after_compression first following reset count old.counter → count ≡ length (entries (values_of old))
       → IsCompressed first following reset (view_of (values_of old)) (view_of (values_of new))
   links_compressed first following reset count is_counter is_count =
@@ -51,11 +49,9 @@ module _ {F P T Gen : Type 0} (g : Mut F (P × (MutBor T × (P × Unit {0}))) (U
         maximum = like.maximum;
       })
 
-  -- The closure saw the values, and they are as it left them.
   pub links_visited : VisitsAll g key f (entries (values_of old)) (entries (values_of new))
   links_visited = subst (λ es. VisitsAll g key f es (entries (values_of new))) (ap (λ (a : Arena Gen (LinkView T)). entries (values_of a)) is_mid) gathering.visits
 
-  -- The links are renamed by the order of their indexes.
   links_renamed : IsRenaming (place_in (map index_of (entries (values_of old)))) (link_map old) (link_map new)
   links_renamed = subst (λ (a : Arena Gen (LinkView T)). IsRenaming (place_in (map index_of (entries (values_of a)))) (link_map a) (link_map new)) is_mid gathering.renamed
 
@@ -65,6 +61,5 @@ module _ {F P T Gen : Type 0} (g : Mut F (P × (MutBor T × (P × Unit {0}))) (U
     stack_capacity = ap (λ (a : Arena Gen T). a.stack_capacity) gathering.arena ∙ ap (λ (a : Arena Gen (LinkView T)). a.stack_capacity) is_mid;
   }
 
-  -- The links stay well linked.
   pub links_agree : IsWellLinked (link_map old) → IsWellLinked (link_map new)
   links_agree agrees = renaming_agrees (place_in (map index_of (entries (values_of old)))) (link_map old) (link_map new) links_renamed agrees

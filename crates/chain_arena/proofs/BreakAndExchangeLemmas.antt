@@ -16,7 +16,6 @@ use Rattle.chain_links.specs.ChainArena.{LinkView, link_map, values_of, value_st
 use Rattle.chain_arena.specs.Effects.{IsCut, IsExchange}
 use Rattle.chain_linking.proofs.LinkWriteLemmas.{FitsLinks-twice, link_map-with_link_map, values_of-with_link_map}
 
--- What holds of a known index.
 pub at_known : (F : ℕ → Type 0) (o : Option ℕ) (n : ℕ) → o ≡ Some n → F n → IfSome o F
 at_known F o n is holds = subst (λ x. IfSome x F) (sym is) holds
 

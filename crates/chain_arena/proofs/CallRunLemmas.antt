@@ -7,7 +7,6 @@ use Rattle.chain_arena.specs.declared.calls.Call.{Call}
 use Rattle.chain_arena.specs.declared.calls.Reply.{Reply}
 
 module _ {P T I Gen W : Type 0} (pointers : PointerKind P I Gen W) where
-  -- One more step.
   pub run_more : (old between new : Links Gen T) (calls : List (Call P T I Gen W)) (replies : List (Reply P T I Gen W)) (call : Call P T I Gen W) (reply : Reply P T I Gen W)
       → Run pointers old calls replies between → Step pointers between call reply new
       → Run pointers old (calls ++ call ∷ []) (replies ++ reply ∷ []) new
@@ -22,11 +21,9 @@ module _ {P T I Gen W : Type 0} (pointers : PointerKind P I Gen W) where
     pub calls : all ≡ made ++ left
     pub run : Run pointers old made replies now
 
-  -- No call is made yet.
   pub under_way_first : (old : Links Gen T) (all left : List (Call P T I Gen W)) (replies : List (Reply P T I Gen W)) → left ≡ all → replies ≡ [] → IsUnderWay old old all left replies
   under_way_first old all left replies same none = record { made = []; calls = sym same; run = subst (λ r. Run pointers old [] r old) (sym none) refl }
 
-  -- One more call is made.
   pub under_way_more : (old between new : Links Gen T) (all left rest : List (Call P T I Gen W)) (replies more : List (Reply P T I Gen W)) (call : Call P T I Gen W) (reply : Reply P T I Gen W)
       → IsUnderWay old between all left replies → left ≡ call ∷ rest → Step pointers between call reply new → more ≡ replies ++ reply ∷ [] → IsUnderWay old new all rest more
   under_way_more old between new all left rest replies more call reply under_way next step is = record {
@@ -35,7 +32,6 @@ module _ {P T I Gen W : Type 0} (pointers : PointerKind P I Gen W) where
     run = subst (λ r. Run pointers old (under_way.made ++ call ∷ []) r new) (sym is) (run_more old between new under_way.made replies call reply under_way.run step);
   }
 
-  -- No call remains.
   pub under_way_last : (old new : Links Gen T) (all left : List (Call P T I Gen W)) (replies : List (Reply P T I Gen W)) → IsUnderWay old new all left replies → length left ≡ 0 → Run pointers old all replies new
   under_way_last old new all left replies under_way none =
       subst (λ l. Run pointers old l replies new) (sym (under_way.calls ∙ (ap (λ l. under_way.made ++ l) (by left none) ∙ append-nil under_way.made))) under_way.run

@@ -17,7 +17,6 @@ use Rattle.chain_arena.specs.Steps.{IsNewLinkAnyhow, ReserveStep}
 use Rattle.chain_arena.proofs.ChainDrainLemmas.{link_map-without_each}
 
 module _ {Gen T : Type 0} where
-  -- A drain that took some links from a pointer's link on, and then the rest.
   pub drained_is : (following : Gen → Gen) (old held new : Links Gen T) (p : ℕ × Gen) (at take count : ℕ) → held ≡ old → at ≡ p.0 → IsValid (entry old) p → IsWalk (link_map old) p.0 (walk_left old p.0)
       → count ≡ min take (length (walk_left held at)) → new ≡ without_each following held (walk_left held at) → IsDrained following old p take count new
   drained_is following old held new p at take count same was_stored valid is_walk counted gone =
@@ -34,7 +33,6 @@ module _ {Gen T : Type 0} where
       }
 
 module _ {P I Gen W T : Type 0} (pointers : PointerKind P I Gen W) where
-  -- Whatever the stack's reach, a link is inserted.
   pub inserted_anyhow : {X : Type 0} (may_reach : ℕ → Option ℕ → ℕ → ℕ → Type 0) (old new : Links Gen T) (kind : InsertKind P I) (t : T) (r : Result P X)
       → IfOk r (IsNewLink pointers may_reach old kind t new) → IfOk r (IsNewLinkAnyhow pointers old kind t new)
   inserted_anyhow may_reach old new kind t (Ok p) known = record {
@@ -45,7 +43,6 @@ module _ {P I Gen W T : Type 0} (pointers : PointerKind P I Gen W) where
   }
   inserted_anyhow may_reach old new kind t (Err e) known = tt
 
-  -- A growth to a given capacity.
   pub reserves : (n : ℕ) (old new : Links Gen T) (r : Result Unit ReallocationError) → Reserves pointers.greatest n (value_view old) r (value_view new) → (n ≤ old.capacity → new ≡ old)
       → OnErr r (new ≡ old) → new ≡ with_capacity_of old new → HasCapacityFor pointers.greatest (length new.slots) new → ReserveStep pointers old n r new
   reserves n old new (Ok done) outcome enough err state held =

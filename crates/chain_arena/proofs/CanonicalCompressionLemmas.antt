@@ -23,7 +23,6 @@ use Rattle.chain_links.specs.CanonicalLayouts.{IsCanonicalLayout}
 use Rattle.chain_links.proofs.ArenaInsertionLemmas.{some_entry, values-count}
 use Rattle.chain_compaction.proofs.ArrangementLemmas.{count-stored}
 
--- The values of entries at the front.
 values-with_front : {Gen T : Type 0} (g : Gen) (values : List T) (i : ℕ) → values_in (entries_from i (with_front g values [])) ≡ values
 values-with_front g [] i = refl
 values-with_front {Gen} {T} g (t ∷ values) i = ap (λ (ts : List T). t ∷ ts) (values-with_front g values (suc i))
@@ -39,11 +38,9 @@ module _ {F P T Gen : Type 0} (g : F → P → P → F → Type 0) (key : P → 
   links_renamed : IsRenaming (place_in arranged.indexes) (link_map old) (link_map new)
   links_renamed = subst (λ (s : LinkMap). IsRenaming (place_in arranged.indexes) s (link_map new)) same_reported arranged.renamed
 
-  -- The links stay well linked.
   pub arranged_agree : IsWellLinked (link_map old) → IsWellLinked (link_map new)
   arranged_agree agrees = renaming_agrees (place_in arranged.indexes) (link_map old) (link_map new) links_renamed agrees
 
-  -- The chains are at consecutive indexes.
   links_run : AreChains (link_map new) (in_runs 1 links_ordered.chains)
   links_run =
       (arranges_chains_in_runs (link_map old) (link_map new) links_ordered.chains (chains_from_pairs (link_map old) links_ordered.chains links_ordered.are.partition links_ordered.are.interlinks)
@@ -52,7 +49,6 @@ module _ {F P T Gen : Type 0} (g : F → P → P → F → Type 0) (key : P → 
   links_arranged : IsArrangement (link_map old) arranged.indexes
   links_arranged = canonical_arranges (link_map old) arranged.indexes (least_index_order_is_canonical (link_map old) arranged.indexes links_ordered)
 
-  -- There is one index and one value for each link.
   indexes_counted : length (entries (values_of old)) ≡ length arranged.indexes
   indexes_counted =
       values-count old
@@ -70,11 +66,9 @@ module _ {F P T Gen : Type 0} (g : F → P → P → F → Type 0) (key : P → 
   is_after : values_of new ≡ after
   is_after = arranged.arena ∙ (λ i. record (arena_of_values (values_of (is_mid i)) arranged.values) { touched = (is_mid i).touched + arranged.touches })
 
-  -- The entry at each index is the one found there.
   entry_found : entry mid ≡ (λ i. found i (entries (values_of old)))
   entry_found = ap (λ (a : Arena Gen (LinkView T)). entry a) is_mid ∙ sym (fun_ext (λ i. found-entries (values_of old) i))
 
-  -- The arena is arranged canonically.
   pub arranged_canonical : (first : Gen) (following : Gen → Gen) (reset : Bool) (count : ℕ) → counter ≡ counter_after_compression first following reset count old.counter → count ≡ length (entries (values_of old))
       → IsCanonicalLayout first following reset (value_view old) (link_map old) (value_view new) (link_map new)
   arranged_canonical first following reset count is_counter is_count =
@@ -105,7 +99,6 @@ module _ {F P T Gen : Type 0} (g : F → P → P → F → Type 0) (key : P → 
   pub arranged_stack_capacity : new.stack_capacity ≡ old.stack_capacity
   arranged_stack_capacity = ap (λ (a : Arena Gen T). a.stack_capacity) is_after
 
-  -- Each link was seen.
   pub arranged_reported : ReportsAll g key (value_view old) (link_map old) new.counter f last
   arranged_reported = record {
     indexes = arranged.indexes;

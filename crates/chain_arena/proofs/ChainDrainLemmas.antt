@@ -22,29 +22,24 @@ use Rattle.chain_links.proofs.LinkStateLemmas.{length-with_link_map}
 use Rattle.chain_links.proofs.ArenaInsertionLemmas.{link_map-within}
 use Rattle.chain_linking.proofs.UnlinkLemmas.{passes_over, link_map-remove_link}
 
--- A result with a value reports whether the counter overflowed.
 pub is_overflow_result-made : {X : Type 0} (overflow : Bool) (x : X) → is_overflow_result (invalidation_result overflow (Some x)) ≡ overflow
 is_overflow_result-made true x = refl
 is_overflow_result-made false x = refl
 
--- No links are taken if none is removed.
 no_walk_is_taken : (link_map : LinkMap) → TakesWalk link_map link_map []
 no_walk_is_taken link_map = record { gone = λ j h. absurd h; rest = λ j none. refl; chains = λ c. (λ chain. (chain, λ j h. absurd h), λ both. both.0) }
 
--- The index that a nonzero number is.
 pub nonzero_index-is : (n i : ℕ) → nonzero_index n ≡ Some i → n ≡ i
 nonzero_index-is zero i is = absurd (cc)
 nonzero_index-is (suc n) i is = cc
 
 module _ {Gen T : Type 0} where
-  -- The link at an index is the entry there.
   pub link_at-entry : (a : Arena Gen (LinkView T)) (i : ℕ) → link_at (entry_at (values_of a)) (link_map a) i ≡ entry_at a i
   link_at-entry a i = ap (λ (o : Option (Gen × T)). link_of o (link_map a i)) (entry_at-with_each detached_value a i) ∙ whole (entry_at a i) where
     whole : (o : Option (Gen × LinkView T)) → link_of (option_map (on_value detached_value) o) (option_map interlinks_of o) ≡ o
     whole None = refl
     whole (Some e) = refl
 
-  -- An existing link has a nonzero index.
   nonzero_index-stored : (a : Arena Gen (LinkView T)) (i : ℕ) (e : Gen × LinkView T) → entry_at a i ≡ Some e → nonzero_index i ≡ Some i
   nonzero_index-stored a zero e stored = absurd (cc)
   nonzero_index-stored a (suc k) e stored = refl
@@ -52,7 +47,6 @@ module _ {Gen T : Type 0} where
   stored-valid : (a : Arena Gen (LinkView T)) (i : ℕ) (e : Gen × LinkView T) → entry_at a i ≡ Some e → HasLink (link_map a) i
   stored-valid a i e stored = record { link = interlinks_of e; links = ap (option_map interlinks_of) stored }
 
-  -- What is left at an existing link is the walk from it.
   walk_left-walk : (a : Arena Gen (LinkView T)) (i : ℕ) (e : Gen × LinkView T) → IsWellLinked (link_map a) → entry_at a i ≡ Some e → IsWalk (link_map a) i (walk_left a i)
   walk_left-walk a i e agrees stored =
       subst (λ (o : Option ℕ). IsWalk (link_map a) i (walk_from (length a.slots) (link_map a) o)) (sym (nonzero_index-stored a i e stored))
@@ -64,16 +58,13 @@ module _ {Gen T : Type 0} where
     by None none is = absurd (let h = sym (ap (option_map (on_value detached_value)) none) ∙ is in cc)
     by (Some e) stored is = walk_left-walk a p.0 e agrees stored
 
-  -- Nothing is left at a free slot.
   walk_left-none : (a : Arena Gen (LinkView T)) (i : ℕ) → entry_at a i ≡ None → walk_left a i ≡ []
   walk_left-none a zero none = refl
   walk_left-none a (suc k) none = walk_from-none (length a.slots) (link_map a) (suc k) (ap (option_map interlinks_of) none)
 
-  -- A removal keeps the number of slots.
   length-remove_link : (following : Gen → Gen) (a : Arena Gen (LinkView T)) (i : ℕ) → length (remove_link following a i).slots ≡ length a.slots
   length-remove_link following a i = length-with_link_map (remove_at following a i) (with_removal (link_map a) i) ∙ length-with_slot a.slots i None
 
-  -- Each removal increments the counter.
   pub without_each-counts : (following : Gen → Gen) (a b : Arena Gen (LinkView T)) (indexes : List ℕ) → b ≡ without_each following a indexes → CountsUp following (length indexes) a b
   without_each-counts following a b indexes gone = subst (CountsUp following (length indexes) a) (sym gone) (counts a indexes)
     where
@@ -89,7 +80,6 @@ module _ {Gen T : Type 0} where
             maximum = later.maximum;
           }
 
-  -- After the removal of its first link the walk goes on.
   walk_left-next : (following : Gen → Gen) (a b : Arena Gen (LinkView T)) (i next : ℕ) (e : Gen × LinkView T) → IsWellLinked (link_map a) → entry_at a i ≡ Some e → b ≡ remove_link following a i
       → nonzero_index next ≡ rest_start i e.1.prev e.1.next → walk_left a i ≡ i ∷ walk_left b next
   walk_left-next following a b i next e agrees stored gone on =
@@ -101,12 +91,10 @@ module _ {Gen T : Type 0} where
       ∙ (ap (λ (s : LinkMap). walk_from (length a.slots) s (nonzero_index next)) (passes_over following a b i gone)
       ∙ ap (walk_from (length a.slots) (with_removal (link_map a) i)) (on ∙ sym same)))))
 
-  -- The link map after the removals.
   pub link_map-without_each : (following : Gen → Gen) (a : Arena Gen (LinkView T)) (walk : List ℕ) → link_map (without_each following a walk) ≡ with_removals (link_map a) walk
   link_map-without_each following a [] = refl
   link_map-without_each following a (i ∷ rest) = link_map-without_each following (remove_link following a i) rest ∙ ap (λ (s : LinkMap). with_removals s rest) (link_map-remove_link following a i)
 
-  -- Removing the walk that is left takes it, also if it is empty.
   pub without_each-takes : (following : Gen → Gen) (a b : Arena Gen (LinkView T)) (i : ℕ) → IsWellLinked (link_map a) → b ≡ without_each following a (walk_left a i) → TakesWalk (link_map a) (link_map b) (walk_left a i)
   without_each-takes following a b i agrees gone =
       subst (λ (s : LinkMap). TakesWalk (link_map a) s (walk_left a i)) (sym (ap (λ (x : Arena Gen (LinkView T)). link_map x) gone ∙ link_map-without_each following a (walk_left a i))) (by (entry_at a i) refl)
@@ -125,7 +113,6 @@ module _ {P Gen K T : Type 0} (key : P → ℕ × Gen) (number : K → Option �
     entry-is : (o : Option (Gen × RawLink K T)) → value_within taken ≡ o → entry_at (values_of old) i ≡ option_map (on_value detached_value) (option_map (on_value (link_view number)) o)
     entry-is o is = entry_at-with_each detached_value old i ∙ ap (option_map (on_value detached_value)) (ap (entry_at old) same ∙ found o is)
 
-    -- If there is no link, nothing is left.
     pub drained_none : value_within taken ≡ None → (entry_at (values_of old) i ≡ None → new ≡ old) → (walk_left old at ≡ []) × (new ≡ old)
     drained_none none kept = (walk_left-none old at (found None none), kept (entry-is None none))
 
@@ -145,13 +132,11 @@ module _ {P Gen K T : Type 0} (key : P → ℕ × Gen) (number : K → Option �
           walk = walk_left-next following old new at next (e.0, link_view number e.1) agrees stored state (on ∙ ap (λ (n : ℕ). rest_start n (number e.1.prev) (number e.1.next)) same);
         }
 
-  -- A step keeps the arena that removing the remaining walk gives.
   pub without_each-step : (old new : Arena Gen (LinkView T)) (at next : ℕ) (returned : InvalidationOption (P × RawLink K T)) → IsDrainStep key number following wraps old at returned new next
       → without_each following new (walk_left new next) ≡ without_each following old (walk_left old at)
   without_each-step old new at next returned step =
       ap (λ (a : Arena Gen (LinkView T)). without_each following a (walk_left new next)) step.state ∙ sym (ap (without_each following old) step.walk)
 
-  -- A step leaves fewer links.
   pub walk_left-step : (old new : Arena Gen (LinkView T)) (at next : ℕ) (returned : InvalidationOption (P × RawLink K T)) → IsDrainStep key number following wraps old at returned new next
       → length (walk_left new next) < length (walk_left old at)
   walk_left-step old new at next returned step = let longer : length (walk_left old at) ≡ length (at ∷ walk_left new next) = ap (length {A = ℕ}) step.walk in omega (arith, longer)

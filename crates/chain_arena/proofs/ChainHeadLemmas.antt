@@ -28,9 +28,6 @@ use Rattle.chain_arena.specs.declared.chains.ChainHead.{ChainHead}
 use Rattle.chain_arena.proofs.StartLemmas.{none_of}
 use Rattle.chain_arena.specs.ChainHeads.{IsHead, AreAllHeads, is_marked, MarksChain, MarksWalk}
 
--- ---- marks
-
--- The marks with these indexes marked, too.
 abbrev with_marks : List Bool → List ℕ → List Bool
 with_marks marks [] = marks
 with_marks marks (i ∷ indexes) = with_marks (with_slot marks i true) indexes
@@ -48,7 +45,6 @@ length-with_marks : (marks : List Bool) (indexes : List ℕ) → length (with_ma
 length-with_marks marks [] = refl
 length-with_marks marks (i ∷ indexes) = length-with_marks (with_slot marks i true) indexes ∙ length-with_slot marks i true
 
--- An index stays unmarked exactly if it is not among those that are marked.
 unmarked : (marks : List Bool) (indexes : List ℕ) → ((i : ℕ) → IsMember indexes i → (1 ≤ i) × (i ≤ length marks))
     → (j : ℕ) → (is_marked (with_marks marks indexes) j ≡ false) ↔ ((is_marked marks j ≡ false) × (IsMember indexes j → ⊥))
 unmarked marks [] within j = (λ h. (h, λ m. m), λ h. h.0)
@@ -66,13 +62,11 @@ unmarked marks (i ∷ indexes) within j =
       λ h. rest.1 (marked_elsewhere marks i j other ∙ h.0, λ m. h.1 (inr m)),
     )
 
--- The mark that was read is that of the index.
 pub is_marked-read : (marks : List Bool) (i place : ℕ) (b mark : Bool) → place + 1 ≡ i → place < length marks → mark ≡ slice_index_or marks place mark → mark ≡ b → is_marked marks i ≡ b
 is_marked-read marks i place b mark at below read is =
     let n : i ≡ suc place = omega (arith, at) in
     ap (is_marked marks) n ∙ (get_or_default marks place false mark below ∙ (sym read ∙ is))
 
--- No index is marked at first.
 none_marked : (n j : ℕ) → is_marked (replicate n false) j ≡ false
 none_marked n zero = refl
 none_marked n (suc k) = by n k
@@ -82,8 +76,6 @@ none_marked n (suc k) = by n k
     by (suc n) zero = refl
     by (suc n) (suc k) = by n k
 
--- ---- the head of a walk
-
 some_of : (o : Option ℕ) → is_none o ≡ false → o ≡ None → ⊥
 some_of o is none = let h : is_none o ≡ true = ap is_none none in absurd (let k = is in cc)
 
@@ -92,7 +84,6 @@ abbrev pub head_view : {P Gen : Type 0} → (P → ℕ × Gen) → ChainHead P �
 head_view key head = (key head.first, head.is_cyclic)
 
 module _ {Gen T : Type 0} where
-  -- The last of the links without a previous link, as the head of a linear chain, or else `head`.
   abbrev head_among : (ℕ × Gen) × Bool → List (ℕ × (Gen × LinkView T)) → (ℕ × Gen) × Bool
   head_among head [] = head
   head_among head (e ∷ links) = head_among (if is_none e.1.1.prev then ((e.0, e.1.0), false) else head) links
@@ -114,7 +105,6 @@ module _ {Gen T : Type 0} (a : Arena Gen (LinkView T)) where
     valid : IsValid (entry a) was_found.0
     is_linear : was_found.1 ≡ false
 
-  -- None was found, or one was.
   abbrev IsFound : (ℕ × Gen) × Bool → List ℕ → (ℕ × Gen) × Bool → Type 0
   IsFound head indexes was_found = (((j : ℕ) → IsMember indexes j → prev_of (link_map a) j ≡ None → ⊥) × (was_found ≡ head)) ⊎ IsStartFound indexes was_found
 
@@ -144,7 +134,6 @@ module _ {Gen T : Type 0} (a : Arena Gen (LinkView T)) where
     was_found : (head : (ℕ × Gen) × Bool) → IsFound head (map index links) (head_among head links)
     was_found head = head_found head links (recursion_from_All IsStored links walk.stored)
 
-    -- In a linear chain the start is found.
     linear_head : (head : (ℕ × Gen) × Bool) (xs : List ℕ) → IsChain (link_map a) (linear xs) → IsMember xs i
         → (first_or xs None ≡ Some (head_among head links).0.0) × IsValid (entry a) (head_among head links).0 × ((head_among head links).1 ≡ false)
     linear_head head xs chain has = by xs refl (was_found head)
@@ -160,7 +149,6 @@ module _ {Gen T : Type 0} (a : Arena Gen (LinkView T)) where
             let first : IsMember xs y = subst (λ zs. IsMember zs y) (sym is) (inl refl) in
             absurd (none.0 y ((among y).1 first) ((lines_end (link_map a) xs y chain first).1.1 (ap (λ zs. first_or zs None) is)))
 
-    -- In a cyclic chain none is found.
     cyclic_head : (head : (ℕ × Gen) × Bool) (xs : List ℕ) → IsChain (link_map a) (cyclic xs) → IsMember xs i → head_among head links ≡ head
     cyclic_head head xs chain has = by (was_found head)
       where
@@ -174,7 +162,6 @@ module _ {Gen T : Type 0} (a : Arena Gen (LinkView T)) where
             let none = start.first in
             absurd (let is = some.1 in cc)
 
-    -- The links of a walk have marks.
     walk_within : (n : ℕ) → length a.slots ≤ n → (j : ℕ) → IsMember (map index links) j → (1 ≤ j) × (j ≤ n)
     walk_within n long j m =
         let w = (link_map-within a).within j (walk_valid (link_map a) i (map index links) walk.walk j m) in
@@ -208,7 +195,6 @@ marking_more old start all marks head next links rest e place b m steps at is ne
     length-slice_set : (n : ℕ) → length (slice_set marks n true) ≡ length marks
     length-slice_set n = length-with_slot marks (suc n) true
 
--- The walk from p marks the links of its chain, and finds the head.
 marks_chain : {P Gen T : Type 0} (key : P → ℕ × Gen) (p : P) (links : List (ℕ × (Gen × LinkView T))) (old new : List Bool) (head : ChainHead P)
     → new ≡ with_marks old (map (λ e. e.0) links) → head_view key head ≡ head_among (key p, true) links → MarksWalk key p links old head new
 marks_chain key p links old new head marks found_head a valid walk long = record {
@@ -247,13 +233,10 @@ marks_chain key p links old new head marks found_head a valid walk long = record
           ring = ap (λ v. v.1) h;
         }
 
--- Nothing is left of the walk.
 pub marking_ends : {P Gen T : Type 0} (key : P → ℕ × Gen) (p : P) (all links : List (ℕ × (Gen × LinkView T))) (old new : List Bool) (head : ChainHead P)
     → IsMarking old (key p, true) all new (head_view key head) links → links ≡ [] → MarksWalk key p all old head new
 marking_ends key p all links old new head m none =
     marks_chain key p all old new head (ap (λ l. with_marks new (map (λ e. e.0) l)) (sym none) ∙ m.marks_are) (ap (head_among (head_view key head)) (sym none) ∙ m.head_is)
-
--- ---- the loop over all links
 
 module _ {P Gen T : Type 0} (key : P → ℕ × Gen) (a : Arena Gen (LinkView T)) where
   -- The entries are those from an index on. The chains that are left have the unmarked links, all
@@ -272,7 +255,6 @@ module _ {P Gen T : Type 0} (key : P → ℕ × Gen) (a : Arena Gen (LinkView T)
     pub unmarked : (j : ℕ) → HasLink (link_map a) j → (is_marked marks j ≡ false) ↔ IsMember (all_items rest) j
     pub complete : (more : List (ChainHead P)) → AllZip (IsHead key a) rest more → AreAllHeads key a (heads ++ more)
 
-  -- No entry is passed yet.
   pub finding_begins : (es : List ((ℕ × Gen) × LinkView T)) (marks : List Bool) (heads : List (ChainHead P)) → IsWellLinked (link_map a)
       → es ≡ entries a → marks ≡ replicate (length a.slots) false → heads ≡ [] → IsFindingHeads es marks heads
   finding_begins es marks heads agrees es_are marks_are heads_are = record {
@@ -318,7 +300,6 @@ module _ {P Gen T : Type 0} (key : P → ℕ × Gen) (a : Arena Gen (LinkView T)
     rest_valid : (j : ℕ) → IsMember (all_items l.rest) j → HasLink (link_map a) j
     rest_valid j m = all_items_valid (link_map a) l.rest j l.each m
 
-    -- No link that is left has a lower index.
     lowest : (j : ℕ) → IsMember (all_items l.rest) j → i ≤ j
     lowest j m =
         let valid = rest_valid j m in
@@ -330,7 +311,6 @@ module _ {P Gen T : Type 0} (key : P → ℕ × Gen) (a : Arena Gen (LinkView T)
         sym (ap (λ b. cond b (Some (e.0.1, e.1)) (found j es)) (ne_eqb i j (λ is. omega (arith, above, is))))
         ∙ l.entries_are j (let low = l.entries_ascend.0 in omega (arith, above, low))
 
-    -- The chain of the first entry is listed already.
     pub finding_skips : is_marked marks i ≡ true → IsFindingHeads es marks heads
     finding_skips marked = record {
       from = suc i;
@@ -439,7 +419,6 @@ module _ {P Gen T : Type 0} (key : P → ℕ × Gen) (a : Arena Gen (LinkView T)
         by [] is = absurd (subst (λ (ds : List Chain). IsMember (all_items ds) i) is in_rest)
         by (c ∷ cs) is = with_next head new (subst (λ (m : List Bool). MarksChain key a i m head new) is_old marks_new) c cs is (subst (λ (ds : List Chain). IsMember (all_items ds) i) is in_rest)
 
-  -- All entries are passed, so no chain is left.
   pub finding_ends : (marks : List Bool) (heads : List (ChainHead P)) → IsFindingHeads [] marks heads → AreAllHeads key a heads
   finding_ends marks heads l = by l.rest refl
     where

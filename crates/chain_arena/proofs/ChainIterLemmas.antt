@@ -17,7 +17,6 @@ use Rattle.chain_links.specs.ChainArena.{LinkView, interlinks_of, link_map, IsWa
 use Rattle.chain_links.specs.Walkers.{end_in, links_at, links_ahead, links_back_ahead}
 use Rattle.chain_links.proofs.ArenaInsertionLemmas.{link_map-within, some_entry}
 
--- The indexes of the entries, counted from k.
 abbrev taken : {X : Type 0} → ℕ → List (Option X) → List ℕ
 taken k [] = []
 taken k (None ∷ slots) = taken (suc k) slots
@@ -36,7 +35,6 @@ IsMember-taken k x (suc j) (None ∷ slots) e at stored = IsMember-taken (suc k)
 IsMember-taken k x (suc j) (Some f ∷ slots) e at stored = inr (IsMember-taken (suc k) x j slots e (omega (arith, at)) stored)
 
 module _ {Gen T : Type 0} where
-  -- There are no more distinct valid indexes than entries.
   pub length-le_entries : (a : Arena Gen (LinkView T)) (xs : List ℕ) → AreDistinct xs → ((x : ℕ) → IsMember xs x → HasLink (link_map a) x) → length xs ≤ entry_count a
   length-le_entries a xs once valid = subst (λ n. length xs ≤ n) (length-taken 1 a.slots) (length_among xs (taken 1 a.slots) once (λ x has. place x (valid x has))) where
     place : (x : ℕ) → HasLink (link_map a) x → IsMember (taken 1 a.slots) x
@@ -46,7 +44,6 @@ module _ {Gen T : Type 0} where
   links_at-entry : (a : Arena Gen (LinkView T)) (i : ℕ) (indexes : List ℕ) (e : Gen × LinkView T) → entry_at a i ≡ Some e → links_at a (i ∷ indexes) ≡ (i, e) ∷ links_at a indexes
   links_at-entry a i indexes e stored = ap (λ (o : Option (Gen × LinkView T)). let links : List (ℕ × (Gen × LinkView T)) = elim o [ None ↦ [] | Some f ↦ (i, f) ∷ links_at a indexes ] in links) stored
 
-  -- The links at valid indexes have these indexes.
   index-links_at : (a : Arena Gen (LinkView T)) (indexes : List ℕ) → ((j : ℕ) → IsMember indexes j → HasLink (link_map a) j) → map (λ (e : ℕ × (Gen × LinkView T)). e.0) (links_at a indexes) ≡ indexes
   index-links_at a [] valid = refl
   index-links_at a (i ∷ indexes) valid =
@@ -65,7 +62,6 @@ module _ {Gen T : Type 0} where
     by rest None stored = tt
     by rest (Some e) stored = (stored, rest)
 
-  -- A walker before a valid link passes its walk.
   pub links_ahead-walk : (a : Arena Gen (LinkView T)) (i : ℕ) → IsWellLinked (link_map a) → HasLink (link_map a) i → IsWalkOf a i (links_ahead a (entry_count a) i (Some i) (prev_of (link_map a) i))
   links_ahead-walk a i agrees valid =
       let walk = has_walk (link_map a) (length a.slots) i agrees (link_map-within a) valid in
@@ -76,12 +72,10 @@ module _ {Gen T : Type 0} where
         stored = All-from_recursion (StoredAs a) (links_at a walk.0) (links_at-are_stored a walk.0);
       })
 
-  -- A walk has at most as many links as the arena.
   pub length-walk : (a : Arena Gen (LinkView T)) (i : ℕ) (links : List (ℕ × (Gen × LinkView T))) → IsWalkOf a i links → length links ≤ entry_count a
   length-walk a i links is = subst (λ n. n ≤ entry_count a) (length-map links (λ (e : ℕ × (Gen × LinkView T)). e.0))
       (length-le_entries a (map (λ (e : ℕ × (Gen × LinkView T)). e.0) links) (walk_once (link_map a) i _ is.walk) (walk_valid (link_map a) i _ is.walk))
 
-  -- The same for a walker whose parts are known by equations.
   pub walker-walk : (a : Arena Gen (LinkView T)) (i left start : ℕ) (back : Option ℕ) (links : List (ℕ × (Gen × LinkView T))) → links ≡ links_ahead a left start (Some start) back
       → left ≡ entry_count a → start ≡ i → back ≡ prev_of (link_map a) i → IsWellLinked (link_map a) → HasLink (link_map a) i → IsWalkOf a i links
   walker-walk a i left start back links are same_left same_start same_back agrees valid =
@@ -90,7 +84,6 @@ module _ {Gen T : Type 0} where
       ∙ (ap (λ s. links_ahead a (entry_count a) s (Some s) back) same_start
       ∙ ap (links_ahead a (entry_count a) i (Some i)) same_back)))) (links_ahead-walk a i agrees valid)
 
-  -- A walker backwards before a valid link passes its walk back.
   links_back_ahead-walk : (a : Arena Gen (LinkView T)) (i : ℕ) → IsWellLinked (link_map a) → HasLink (link_map a) i → IsWalkBackOf a i (links_back_ahead a (entry_count a) i (Some i))
   links_back_ahead-walk a i agrees valid =
       let walk = has_walk_back (link_map a) (length a.slots) i agrees (link_map-within a) valid in
@@ -101,7 +94,6 @@ module _ {Gen T : Type 0} where
         stored = All-from_recursion (StoredAs a) (links_at a walk.0) (links_at-are_stored a walk.0);
       })
 
-  -- What it passes, by indexes.
   pub back_ahead-walk : (a : Arena Gen (LinkView T)) (i : ℕ) → IsWellLinked (link_map a) → HasLink (link_map a) i → IsWalkBack (link_map a) i (back_ahead (entry_count a) (link_map a) i (end_in a i) (Some i))
   back_ahead-walk a i agrees valid =
       let walk = has_walk_back (link_map a) (length a.slots) i agrees (link_map-within a) valid in
@@ -109,12 +101,10 @@ module _ {Gen T : Type 0} where
       let passed = back_passed (entry_count a) (length a.slots) (link_map a) i walk.0 walk.1 (length-le_entries a walk.0 (back_once (link_map a) i walk.0 walk.1) each) (back_bound (link_map a) (length a.slots) i walk.0 (link_map-within a) walk.1) in
       subst (IsWalkBack (link_map a) i) (sym passed) walk.1
 
-  -- A walk back has at most as many links as the arena.
   pub length-walk_back : (a : Arena Gen (LinkView T)) (i : ℕ) (links : List (ℕ × (Gen × LinkView T))) → IsWalkBackOf a i links → length links ≤ entry_count a
   length-walk_back a i links is = subst (λ n. n ≤ entry_count a) (length-map links (λ (e : ℕ × (Gen × LinkView T)). e.0))
       (length-le_entries a (map (λ (e : ℕ × (Gen × LinkView T)). e.0) links) (back_once (link_map a) i _ is.walk) (back_valid (link_map a) i _ is.walk))
 
-  -- The same for a walker whose parts are known by equations.
   pub back_walker-walk : (a : Arena Gen (LinkView T)) (i left start : ℕ) (links : List (ℕ × (Gen × LinkView T))) → links ≡ links_back_ahead a left start (Some start) → left ≡ entry_count a → start ≡ i → IsWellLinked (link_map a)
       → HasLink (link_map a) i → IsWalkBackOf a i links
   back_walker-walk a i left start links are same_left same_start agrees valid =

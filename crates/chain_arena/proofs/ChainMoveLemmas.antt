@@ -38,19 +38,16 @@ pub data IsPartlyMoved (old left new : LinkMap) : Bool → List (ℕ × ℕ) →
       → IsPartlyMoved old left new true (i ∷ ahead ++ reverse back) (moved_indexes (back ++ i ∷ ahead)) (x ∷ reverse before)
   all_moved : (is_back : Bool) (moves : List (ℕ × ℕ)) (ys : List ℕ) → IsChainMoved old new moves → IsPartlyMoved old left new is_back moves ys []
 
--- No link is moved yet.
 pub move_begins : (old new : LinkMap) (i : ℕ) (walk : List ℕ) → IsWalk old i walk → IsPartlyMoved old old new false [] [] walk
 move_begins old new i _ (of_linear before after chain) = ahead_linear before [] i after chain chain (tt, tt)
 move_begins old new i _ (of_cyclic after chain) = ahead_cyclic [] i after chain chain (tt, tt)
 
--- All links are moved.
 pub move_ends : (old left new : LinkMap) (is_back : Bool) (moves : List (ℕ × ℕ)) (ys rest : List ℕ) → IsPartlyMoved old left new is_back moves ys rest → rest ≡ [] → IsChainMoved old new moves
 move_ends old left new _ _ _ _ (ahead_linear before moves x after chain still run) none = absurd (cc)
 move_ends old left new _ _ _ _ (ahead_cyclic moves x after chain still run) none = absurd (cc)
 move_ends old left new _ _ _ _ (back_linear before x back i ahead chain still run) none = absurd (cc)
 move_ends old left new _ _ _ _ (all_moved is_back moves ys moved) none = moved
 
--- One more link, in lists of indexes.
 old_indexes-push : (moves : List (ℕ × ℕ)) (x q : ℕ) (zs : List ℕ) → old_indexes (moves ++ (x, q) ∷ []) ++ zs ≡ old_indexes moves ++ x ∷ zs
 old_indexes-push [] x q zs = refl
 old_indexes-push (m ∷ moves) x q zs = ap (λ (ys : List ℕ). m.0 ∷ ys) (old_indexes-push moves x q zs)
@@ -59,7 +56,6 @@ moved_indexes-push : (moves : List (ℕ × ℕ)) (x q : ℕ) → moved_indexes (
 moved_indexes-push [] x q = refl
 moved_indexes-push (m ∷ moves) x q = ap (λ (ys : List ℕ). m.1 ∷ ys) (moved_indexes-push moves x q)
 
--- A list with an item appended has a first item.
 split_first : (moves : List (ℕ × ℕ)) (m : ℕ × ℕ) → (i : ℕ × ℕ) × (ahead : List (ℕ × ℕ)) × (moves ++ m ∷ [] ≡ i ∷ ahead)
 split_first [] m = (m, [], refl)
 split_first (i ∷ ahead) m = (i, ahead ++ m ∷ [], refl)
@@ -68,25 +64,21 @@ module _ (new : LinkMap) (q : ℕ) (free : new q ≡ None) where
   not_in_run : (ys : List ℕ) → IsLinearOrEmpty new ys → IsMember ys q → ⊥
   not_in_run ys run h = free_invalid new q free (AreLinked-valid new None ys None q run.1 h)
 
-  -- A link after the last of a run.
   run_end : (ys : List ℕ) → IsLinearOrEmpty new ys → IsLinearOrEmpty (with_insertion new q (last_or ys None) None) (ys ++ q ∷ [])
   run_end ys run =
       let none = not_in_run ys run in
       let chain = inserted_between new q ys None None [] (subst AreDistinct (sym (append-nil ys)) run.0) (subst (λ (zs : List ℕ). IsMember zs q → ⊥) (sym (append-nil ys)) none) run.1 tt in
       (chain.1, chain.2)
 
-  -- A link before the first of a run.
   run_start : (ys : List ℕ) → IsLinearOrEmpty new ys → IsLinearOrEmpty (with_insertion new q None (first_or ys None)) (q ∷ ys)
   run_start ys run =
       let chain = inserted_between new q [] None None ys run.0 (not_in_run ys run) tt run.1 in
       (chain.1, chain.2)
 
-  -- A link that closes a run to a ring.
   ring_closed : (ys : List ℕ) → IsLinearOrEmpty new ys → IsChain (with_insertion new q (last_or ys (Some q)) (first_or ys (Some q))) (cyclic (ys ++ q ∷ []))
   ring_closed [] run = (inserted_inserts new q (Some q) (Some q) free).ring refl refl
   ring_closed (y ∷ ys) run = inserted_cyclic new q None (y ∷ ys) None (λ none. cc) run.0 (not_in_run (y ∷ ys) run) run.1
 
--- The last link of a run has no next.
 end_of_run : (new : LinkMap) (y : ℕ) (zs : List ℕ) → IsLinearOrEmpty new (y ∷ zs) → (k : ℕ) × (last_or zs (Some y) ≡ Some k) × HasLink new k × (next_of new k ≡ None)
 end_of_run new y zs run =
     let l = last_apart y zs in
@@ -97,7 +89,6 @@ end_of_run new y zs run =
       reports_next new l.1 (last_or l.0 None) None named,
     )
 
--- There are insertion positions after a run, before it, and between its ends.
 position_end : (new : LinkMap) (q : ℕ) (ys : List ℕ) → IsLinearOrEmpty new ys → IsInsertPosition new q (last_or ys None) None
 position_end new q [] run = tt
 position_end new q (y ∷ zs) run =
@@ -115,7 +106,6 @@ position_ring new q (y ∷ zs) run =
     subst (λ (o : Option ℕ). IsInsertPosition new q o (Some y)) (sym l.1)
     (inr (inl (record { valid_end = l.2; valid_start = reports_valid new y _ run.1.0; end = l.3; start = reports_prev new y None (first_or zs None) run.1.0 })))
 
--- The links from the first on are moved, and those before it are left, or none is.
 turned_back : (old left new : LinkMap) (before : List ℕ) (back : List (ℕ × ℕ)) (i : ℕ × ℕ) (ahead : List (ℕ × ℕ)) → IsChain old (linear (before ++ old_indexes (back ++ i ∷ ahead)))
     → (before ≢ [] → IsChain left (linear before)) → IsLinearOrEmpty new (moved_indexes (back ++ i ∷ ahead)) → IsPartlyMoved old left new true (i ∷ ahead ++ reverse back) (moved_indexes (back ++ i ∷ ahead)) (reverse before)
 turned_back old left new [] back i ahead chain still run =
@@ -138,7 +128,6 @@ pub record IsNextMove (old left new : LinkMap) (closes is_end is_back : Bool) (m
   pub under_way : (q : ℕ) → new q ≡ None
       → IsPartlyMoved old (with_removal left x) (with_insertion new q (link_before_moved closes is_back ys q) (link_after_moved closes is_back ys q)) is_end (moves ++ (x, q) ∷ []) (with_moved_link is_back ys q) rest
 
--- A Boolean for a fact that holds, or that does not.
 flag_true : {X : Type 0} (b : Bool) → IsTrue b ↔ X → X → b ≡ true
 flag_true b both holds = both.1 holds
 
@@ -146,7 +135,6 @@ flag_false : {X : Type 0} (b : Bool) → IsTrue b ↔ X → (X → ⊥) → b �
 flag_false true both fails = absurd (fails (both.0 refl))
 flag_false false both fails = refl
 
--- What a list begins with, from an equal one.
 at_head : (Holds : ℕ → List ℕ → Type 0) (x y : ℕ) (xs ys : List ℕ) → x ∷ xs ≡ y ∷ ys → Holds x xs → Holds y ys
 at_head Holds x y xs ys same holds =
     let first : x ≡ y = cc in
@@ -160,19 +148,16 @@ module _ (old left new : LinkMap) where
       subst (λ (b : Bool). IsNextMove old left new b is_end is_back moves ys x rest) (sym same)
       (subst (λ (b : Bool). IsNextMove old left new c b is_back moves ys x rest) (sym also) next)
 
-  -- The new indexes with that of the next link after the last.
   with_moved_indexes : (new_after : LinkMap) (is_end : Bool) (left_after : LinkMap) (moves : List (ℕ × ℕ)) (x q : ℕ) (rest : List ℕ)
       → IsPartlyMoved old left_after new_after is_end (moves ++ (x, q) ∷ []) (moved_indexes (moves ++ (x, q) ∷ [])) rest
       → IsPartlyMoved old left_after new_after is_end (moves ++ (x, q) ∷ []) (with_moved_link false (moved_indexes moves) q) rest
   with_moved_indexes new_after is_end left_after moves x q rest under_way =
       subst (λ (ys : List ℕ). IsPartlyMoved old left_after new_after is_end (moves ++ (x, q) ∷ []) ys rest) (moved_indexes-push moves x q) under_way
 
-  -- A run, with the next link after the last.
   grown_run : (q : ℕ) → new q ≡ None → (moves : List (ℕ × ℕ)) (x : ℕ) → IsLinearOrEmpty new (moved_indexes moves) → IsLinearOrEmpty (with_insertion new q (last_or (moved_indexes moves) None) None) (moved_indexes (moves ++ (x, q) ∷ []))
   grown_run q free moves x run =
       subst (IsLinearOrEmpty (with_insertion new q (last_or (moved_indexes moves) None) None)) (sym (moved_indexes-push moves x q)) (run_end new q free (moved_indexes moves) run)
 
-  -- The next link of a list, toward its end.
   linear_next : (before : List ℕ) (moves : List (ℕ × ℕ)) (x : ℕ) (after : List ℕ) (closes is_end : Bool) → IsChain old (linear (before ++ (old_indexes moves ++ x ∷ after)))
       → IsChain left (linear (before ++ x ∷ after)) → IsLinearOrEmpty new (moved_indexes moves) → IsTrue closes ↔ (next_of left x ≡ Some x) → IsTrue is_end ↔ (next_of left x ≡ None)
       → IsNextMove old left new closes is_end false moves (moved_indexes moves) x (after ++ reverse before)
@@ -207,7 +192,6 @@ module _ (old left new : LinkMap) where
             (grown_run q free moves x run));
       })
 
-  -- The next link of a ring.
   cyclic_next : (moves : List (ℕ × ℕ)) (x : ℕ) (after : List ℕ) (closes is_end : Bool) → IsChain old (cyclic (old_indexes moves ++ x ∷ after))
       → IsChain left (cyclic (x ∷ after)) → IsLinearOrEmpty new (moved_indexes moves) → IsTrue closes ↔ (next_of left x ≡ Some x) → IsTrue is_end ↔ (next_of left x ≡ None)
       → IsNextMove old left new closes is_end false moves (moved_indexes moves) x after
@@ -238,7 +222,6 @@ module _ (old left new : LinkMap) where
             (grown_run q free moves x run));
       })
 
-  -- The next link of a list, toward its start.
   linear_back : (before : List ℕ) (x : ℕ) (back : List (ℕ × ℕ)) (i : ℕ × ℕ) (ahead : List (ℕ × ℕ)) (closes is_end : Bool) → IsChain old (linear (before ++ x ∷ old_indexes (back ++ i ∷ ahead)))
       → IsChain left (linear (before ++ x ∷ [])) → IsLinearOrEmpty new (moved_indexes (back ++ i ∷ ahead)) → IsTrue closes ↔ (next_of left x ≡ Some x) → IsTrue is_end ↔ (next_of left x ≡ None)
       → IsNextMove old left new closes is_end true (i ∷ ahead ++ reverse back) (moved_indexes (back ++ i ∷ ahead)) x (reverse before)
@@ -257,7 +240,6 @@ module _ (old left new : LinkMap) where
             (run_start new q free ys run));
       })
 
-  -- The next link, whatever is moved.
   pub next_move : (closes is_end is_back : Bool) (moves : List (ℕ × ℕ)) (ys walk : List ℕ) → IsPartlyMoved old left new is_back moves ys walk → (x : ℕ) (rest : List ℕ) → walk ≡ x ∷ rest
       → IsTrue closes ↔ (next_of left x ≡ Some x) → IsTrue is_end ↔ (next_of left x ≡ None) → IsNextMove old left new closes is_end is_back moves ys x rest
   next_move closes is_end _ _ _ _ (ahead_linear before moves i after chain still run) x rest is =

@@ -32,28 +32,23 @@ use Rattle.chain_arena.proofs.TransferClosureLemmas.{overflows-append}
 use Rattle.chain_arena.proofs.ChainMoveLemmas.{IsPartlyMoved, IsNextMove, move_begins, move_ends, next_move}
 
 module _ {G U : Type 0} (following : G → G) where
-  -- One more removal.
   without_each-push : (a : Arena G (LinkView U)) (indexes : List ℕ) (i : ℕ) → without_each following a (indexes ++ i ∷ []) ≡ remove_link following (without_each following a indexes) i
   without_each-push a [] i = refl
   without_each-push a (j ∷ indexes) i = without_each-push (remove_link following a j) indexes i
 
-  -- An entry after removals is one before them.
   stored_before : (a : Arena G (LinkView U)) (indexes : List ℕ) (i : ℕ) (e : G × U) → entry (without_each following a indexes) i ≡ Some e → entry a i ≡ Some e
   stored_before a [] i e is = is
   stored_before a (j ∷ indexes) i e is =
       slot_cleared (values_of a).slots j i e
       (sym (ap (λ (b : Arena G U). entry_at b i) (values_of-remove_link following a j)) ∙ stored_before (remove_link following a j) indexes i e is)
 
--- The next index of an arena is that of its values.
 next_of_values : {Gen T : Type 0} (a : Arena Gen (LinkView T)) → next_index (values_of a) ≡ next_index a
 next_of_values a = ap (first_or_next a.freed) (length-with_each detached_value a)
 
--- A walk begins with its link.
 walk_begins_with : (links : LinkMap) (i : ℕ) (walk : List ℕ) → IsWalk links i walk → (rest : List ℕ) × (walk ≡ i ∷ rest)
 walk_begins_with links i _ (of_linear before after chain) = (after ++ reverse before, refl)
 walk_begins_with links i _ (of_cyclic after chain) = (after, refl)
 
--- The last and the first of some indexes are in no chain without them.
 apart_last : (ys : List ℕ) (o : Option ℕ) (d : Chain) → ((j : ℕ) → IsMember ys j → IsMember (items d) j → ⊥) → (HasIndex d o → ⊥) → HasIndex d (last_or ys o) → ⊥
 apart_last ys o d apart none = by (last_or ys o) refl
   where
@@ -68,14 +63,12 @@ apart_first ys o d apart none = by (first_or ys o) refl
     by None is h = h
     by (Some k) is h = ⊎_elim (λ (m : IsMember ys k). apart k m h) (λ (e : o ≡ Some k). none (subst (HasIndex d) (sym e) h)) (first_or-IsMember ys o k is)
 
--- So are the links beside a new one.
 apart_beside : (closes is_back : Bool) (ys : List ℕ) (q : ℕ) (d : Chain) → ((j : ℕ) → IsMember ys j → IsMember (items d) j → ⊥) → (IsMember (items d) q → ⊥)
     → (HasIndex d (link_before_moved closes is_back ys q) → ⊥) × (HasIndex d (link_after_moved closes is_back ys q) → ⊥)
 apart_beside true is_back ys q d apart none = (apart_last ys (Some q) d apart none, apart_first ys (Some q) d apart none)
 apart_beside false true ys q d apart none = (λ h. h, apart_first ys None d apart (λ h. h))
 apart_beside false false ys q d apart none = (apart_last ys None d apart (λ h. h), λ h. h)
 
--- A moved index is the new one, or was moved before.
 member_moved : (is_back : Bool) (ys : List ℕ) (q j : ℕ) → IsMember (with_moved_link is_back ys q) j → IsMember ys j ⊎ (q ≡ j)
 member_moved true ys q j (inl is) = inr is
 member_moved true ys q j (inr h) = inl h
@@ -86,7 +79,6 @@ member_moved false ys q j h = by (IsMember-parts ys (q ∷ []) j h)
     by (inr (inl is)) = inr is
     by (inr (inr none)) = absurd none
 
--- There is capacity for the first link of a walk.
 pub has_capacity_first : (links : LinkMap) (i count capacity : ℕ) (walk : List ℕ) → IsWalk links i walk → count + length walk ≤ capacity → count < capacity
 has_capacity_first links i count capacity walk is_walk enough =
     let w = walk_begins_with links i walk is_walk in
@@ -114,7 +106,6 @@ module _ {Q P G Gen I U T F : Type 0} (key : Q → ℕ × G) (new_key : P → �
     pub stack_capacity : now.stack_capacity ≡ start.stack_capacity
     pub maximum : now.maximum ≡ start.maximum
 
-  -- No link is transferred yet.
   pub transfer_begins : (at : ℕ) → at ≡ i → IsWalk (link_map source) i (walk_left source i) → IsTransferUnderWay source at false None first start
   transfer_begins at is walk = record {
     transferred = [];
@@ -136,7 +127,6 @@ module _ {Q P G Gen I U T F : Type 0} (key : Q → ℕ × G) (new_key : P → �
   }
 
   module _ (src : Arena G (LinkView U)) (at : ℕ) (is_back : Bool) (ends : Option (I × I)) (f : F) (now : Arena Gen (LinkView T)) (c : IsTransferUnderWay src at is_back ends f now) where
-    -- While links are left, there is capacity for one more.
     pub capacity_left : (n : ℕ) (rest : List ℕ) → walk_left src at ≡ n ∷ rest → entry_count start + length (walk_left source i) ≤ start.capacity → entry_count now < now.capacity
     capacity_left n rest left enough =
         let whole = ap (length {A = ℕ}) c.walk in
@@ -156,11 +146,9 @@ module _ {Q P G Gen I U T F : Type 0} (key : Q → ℕ × G) (new_key : P → �
           (λ t. named ∙ (closing.0 t ∙ ap (λ (n : ℕ). Some n) step.index), λ e. closing.1 (sym named ∙ (e ∙ ap (λ (n : ℕ). Some n) (sym step.index))))
           (λ t. named ∙ ending.0 t, λ e. ending.1 (sym named ∙ e))
 
-      -- There is an insertion position for the next link.
       pub has_position : (ys : List ℕ) × AreEndsOf number ends ys × IsInsertPosition (link_map now) (next_index now) (link_before_moved closes is_back ys (next_index now)) (link_after_moved closes is_back ys (next_index now))
       has_position = (c.ys, c.bounds, moves_next.position (next_index now))
 
-      -- There is capacity for it.
       pub has_capacity_next : entry_count start + length (walk_left source i) ≤ start.capacity → entry_count now < now.capacity
       has_capacity_next = capacity_left at (walk_left out next) step.walk
 
@@ -195,7 +183,6 @@ module _ {Q P G Gen I U T F : Type 0} (key : Q → ℕ × G) (new_key : P → �
         both_more = map_push (both_indexes key new_key) c.transferred link
             ∙ ap₂ (λ (n : ℕ) (k : ℕ × Gen). map (both_indexes key new_key) c.transferred ++ (n, k.0) ∷ []) at_index at_next
 
-        -- The entry of the link, in the source before the transfer.
         stored_now : entry src at ≡ Some ((key ptr).1, value_in value)
         stored_now =
             entry_at-with_each detached_value src at
@@ -267,7 +254,6 @@ module _ {Q P G Gen I U T F : Type 0} (key : Q → ℕ × G) (new_key : P → �
             let is = made.0 ∙ sym (ap (λ (a : Arena Gen (LinkView T)). with_capacity_of whole a) made.0) in
             sym (values-count after) ∙ (known_more now t listed after u v is ∙ ap (λ (n : ℕ). n + 1) (values-count now))
 
-        -- The next link is transferred.
         pub transfer_continues : IsTransferUnderWay out next is_end ends_after called_next after
         transfer_continues = record {
           transferred = more;
@@ -296,7 +282,6 @@ module _ {Q P G Gen I U T F : Type 0} (key : Q → ℕ × G) (new_key : P → �
       whole : walk_left source i ≡ map (old_index key) c.transferred
       whole = c.walk ∙ (ap (λ (w : List ℕ). map (old_index key) c.transferred ++ w) none ∙ append-nil (map (old_index key) c.transferred))
 
-      -- The first link is that of p, and is moved to q.
       first_moved : (moved : List (TransferredLink Q P U T)) (end : Arena Gen T) → walk_left source i ≡ map (old_index key) moved → All (λ c. entry source (old_index key c) ≡ Some ((key c.from).1, value_in c.value)) moved
           → FoldsTo (IsInsertedNext new_key) (values_of start) moved end → slice_get (map (both_keys key new_key) moved) 0 ≡ Some (p, new_key q)
       first_moved [] end walk stored inserted = absurd (let w = walk_begins_with (link_map source) i (walk_left source i) is_walk in let both = sym walk ∙ w.1 in cc)
@@ -311,7 +296,6 @@ module _ {Q P G Gen I U T F : Type 0} (key : Q → ℕ × G) (new_key : P → �
           (ap₂ (λ (n : ℕ) (g : G). let k : ℕ × G = (n, g) in k) index generation)
           (inserted.1.0 ∙ (ap (λ (n : ℕ). let k : ℕ × Gen = (n, start.counter) in k) (next_of_values start) ∙ sym at_next))
 
-      -- All links are transferred.
       pub transfer_ends : IsChainTransferred key new_key following wraps call first p q source out start now
       transfer_ends =
           let state : out ≡ without_each following source (map (old_index key) c.transferred) = same ∙ c.gone in

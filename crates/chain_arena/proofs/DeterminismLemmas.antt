@@ -38,11 +38,9 @@ use Rattle.chain_links.proofs.ArenaInsertionLemmas.{values-count}
 use Rattle.arena_traits.proofs.CallOutcomeLemmas.{not_beyond}
 use Rattle.chain_arena.proofs.TouchCountLemmas.{touch, compression_same, layout_same, step_touched, run_touched}
 
--- Two things equal to a third are equal.
 same : {A : Type 0} {x a b : A} → a ≡ x → b ≡ x → a ≡ b
 same one two = one ∙ sym two
 
--- Two results are the same, and so are two states.
 abbrev Same : {R S : Type 0} → R → R → S → S → Type 0
 Same r s a b = (r ≡ s) × (a ≡ b)
 
@@ -50,7 +48,6 @@ same_but_touched : {Gen T : Type 0} (a b : Links Gen T) → a ≡ b → AreSameB
 same_but_touched {Gen} {T} a b is = is ∙ ap (λ (n : ℕ). touch n b) (sym (ap (λ (x : Links Gen T). x.touched) is))
 
 module _ {Gen T : Type 0} where
-  -- A sufficient capacity stays.
   capacity_stays : (greatest n : ℕ) (old base new : Links Gen T) → HaveSameCapacity base old → n ≤ old.capacity → GrowsStackToFit greatest n old base new → HaveSameCapacity new old
   capacity_stays greatest n old base new kept enough grown =
       let is = grown.enough enough in (ap (λ (a : Links Gen T). a.capacity) is ∙ kept.0, ap (λ (a : Links Gen T). a.stack_capacity) is ∙ kept.1)
@@ -58,52 +55,42 @@ module _ {Gen T : Type 0} where
   capacity_kept : (old new : Links Gen T) → new ≡ old → HaveSameCapacity new old
   capacity_kept old new is = (ap (λ (a : Links Gen T). a.capacity) is, ap (λ (a : Links Gen T). a.stack_capacity) is)
 
-  -- Arenas that are the same but for touches are so but for capacity and touches.
   same_but_capacity : (a b : Links Gen T) → AreSameButTouched a b → AreSameButCapacityAndTouched a b
   same_but_capacity a b is =
       let capacity = sym (ap (λ (x : Links Gen T). x.capacity) is) in
       let stack_capacity = sym (ap (λ (x : Links Gen T). x.stack_capacity) is) in
       is ∙ ap₂ (λ (c d : ℕ). touch a.touched (record b { capacity = c; stack_capacity = d })) capacity stack_capacity
 
-  -- Arenas that are the same but for capacity and touches, with the same capacity, are so but for
-  -- touches.
   same_with_capacity : (a b : Links Gen T) → HaveSameCapacity a b → AreSameButCapacityAndTouched a b → AreSameButTouched a b
   same_with_capacity a b within_capacity is = is ∙ ap₂ (λ (c d : ℕ). touch a.touched (record b { capacity = c; stack_capacity = d })) within_capacity.0 within_capacity.1
 
-  -- Arenas that differ from one in capacity alone are the same but for capacity and touches.
   both_but_capacity : (base a b : Links Gen T) → a ≡ with_capacity_of base a → b ≡ with_capacity_of base b → AreSameButCapacityAndTouched a b
   both_but_capacity base a b is_a is_b = same_but_touched a (with_capacity_of b a) (is_a ∙ sym (ap (λ (x : Links Gen T). with_capacity_of x a) is_b))
 
-  -- Arenas equal to one are the same but for capacity and touches.
   kept_both : (old a b : Links Gen T) → a ≡ old → b ≡ old → AreSameButCapacityAndTouched a b
   kept_both old a b is_a is_b = same_but_capacity a b (same_but_touched a b (same is_a is_b))
 
-  -- An arena that has grown is within the maximum.
   made_within : (greatest n : ℕ) (old base new : Links Gen T) → base.maximum ≡ old.maximum → GrowsStackToFit greatest n old base new → RefusesToFit n (value_view old) refused.BeyondMaxCapacity → ⊥
   made_within greatest n old base new maximum grown past =
       let held = grown.grown past.0 in
       let most : new.maximum ≡ old.maximum = ap (λ (x : Links Gen T). x.maximum) grown.state ∙ maximum in
       not_beyond old.maximum n new.capacity held.0.fits (subst (λ (o : Option ℕ). IsWithinMaximum o new.capacity) most held.0.within_maximum) past.1
 
-  -- An arena that has grown is within the greatest index.
   made_up_to : (greatest n : ℕ) (old base new : Links Gen T) → GrowsStackToFit greatest n old base new → RefusesToFit n (value_view old) refused.AllocError → n ≤ greatest
   made_up_to greatest n old base new grown absent = let held = grown.grown absent.0 in omega (arith, held.0.fits, held.0.at_most_greatest)
 
-  -- An arena that has grown has more capacity than before.
   made_more : (greatest n : ℕ) (old base new other : Links Gen T) → GrowsStackToFit greatest n old base new → RefusesToFit n (value_view old) refused.AllocError → other ≡ old → HaveSameCapacity new other → ⊥
   made_more greatest n old base new other grown absent is same_capacity =
       let held = grown.grown absent.0 in
       let kept = ap (λ (x : Links Gen T). x.capacity) is in
       omega (arith, kept, held.0.fits, same_capacity.0, absent.0)
 
-  -- A refusal of one more link is one of capacity for the links and one.
   one_more_refused : (old : Links Gen T) (why : ReallocationError) → RefusesOneMore (value_view old) why → RefusesToFit (entry_count old + 1) (value_view old) why
   one_more_refused old refused.BeyondMaxCapacity why =
       let full = why.0 in let counted = values-count old in (omega (arith, full, counted), subst (λ (n : ℕ). IsBeyond old.maximum (n + 1)) counted why.1)
   one_more_refused old refused.AllocError why =
       let full = why.0 in let counted = values-count old in (omega (arith, full, counted), λ past. why.1 (subst (λ (n : ℕ). IsBeyond old.maximum (n + 1)) (sym counted) past))
 
--- A result is determined.
 states_same : {X Y Gen : Type 0} {No : Type 0} (see : X → Y) (Done Made : X → Type 0) (wraps : Gen → Bool) (counter : Gen) (r s : InvalidationResult X) → ((x : X) → Done x → No → ⊥) → ((x : X) → Made x → No → ⊥)
     → ((x y : X) → Done x → Made y → see x ≡ see y) → ReportsOverflow wraps (Some counter) No Done r → ReportsOverflow wraps (Some counter) No Made s → AreSameResults see r s
 states_same see Done Made wraps counter (Success x) (Success y) apart beside once one two = once x y one.1 two.1
@@ -116,7 +103,6 @@ states_same see Done Made wraps counter (GenerationOverflow x) InvalidPtr apart 
 states_same see Done Made wraps counter InvalidPtr (Success y) apart beside once one two = absurd (beside y two.1 one)
 states_same see Done Made wraps counter InvalidPtr (GenerationOverflow y) apart beside once one two = absurd (beside y two.1 one)
 
--- What is done to an arena, if anything is, is determined.
 arenas_same : {X Y S : Type 0} (see : X → Y) (old a b : S) (Done Made : Type 0) (r s : InvalidationResult X) → (Done → Made → a ≡ b) → AreSameResults see r s → IfNone (value_within r) (a ≡ old) → IfNone (value_within s) (b ≡ old)
     → OnSome (value_within r) Done → OnSome (value_within s) Made → a ≡ b
 arenas_same see old a b Done Made (Success x) (Success y) once is none_r none_s made_r made_s = once made_r made_s
@@ -129,12 +115,10 @@ arenas_same see old a b Done Made (GenerationOverflow x) InvalidPtr once is none
 arenas_same see old a b Done Made InvalidPtr (Success y) once is none_r none_s made_r made_s = absurd is
 arenas_same see old a b Done Made InvalidPtr (GenerationOverflow y) once is none_r none_s made_r made_s = absurd is
 
--- What is known of one optional index determines an arena.
 cut_same : {S : Type 0} (o : Option ℕ) (n : ℕ) (after : ℕ → S) (a b : S) (Done Made : ℕ → Type 0) → ((i : ℕ) → Done i → a ≡ after i) → ((i : ℕ) → Made i → b ≡ after i) → o ≡ Some n → IfSome o Done → IfSome o Made → a ≡ b
 cut_same None n after a b Done Made one two is done made = absurd (none-some n is)
 cut_same (Some i) n after a b Done Made one two is done made = one i done ∙ sym (two i made)
 
--- Two results are the same if their whole values are.
 same_known : {X : Type 0} (r s : InvalidationResult X) → AreSameResults (λ x. x) r s → r ≡ s
 same_known (Success x) (Success y) is = ap Success is
 same_known (GenerationOverflow x) (GenerationOverflow y) is = ap GenerationOverflow is
@@ -151,7 +135,6 @@ states_itself see (Success x) = refl
 states_itself see (GenerationOverflow x) = refl
 states_itself see InvalidPtr = tt
 
--- A reply is the same as itself.
 reports_itself : {P T I Gen W : Type 0} (packed : PackedOption I W → Option ℕ) (r : Reply P T I Gen W) → AreSameReplies packed r r
 reports_itself packed (reply.Inserted returned) = refl
 reports_itself packed (reply.Done returned) = refl
@@ -164,7 +147,6 @@ reports_itself packed (reply.Reserved returned) = refl
 reports_itself packed reply.Set = refl
 
 module _ {P T I Gen W : Type 0} (pointers : PointerKind P I Gen W) (same_key : (p q : P) → pointers.key p ≡ pointers.key q → p ≡ q) where
-  -- Replies are the same, and so are arenas but for touches.
   abbrev SameButTouched : Reply P T I Gen W → Reply P T I Gen W → Links Gen T → Links Gen T → Type 0
   SameButTouched r s a b = AreSameReplies pointers.packed r s × AreSameButTouched a b
 
@@ -230,7 +212,6 @@ module _ {P T I Gen W : Type 0} (pointers : PointerKind P I Gen W) (same_key : (
   breaks_next_same old a b p (Some d) (Some e) one two =
       (refl, cut_same (next_of (link_map old) (pointers.key p).0) one.0.1 (λ i. with_link_map old (without_pair (link_map old) (pointers.key p).0 i)) a b (λ i. IsCut old a (pointers.key p).0 i) (λ i. IsCut old b (pointers.key p).0 i) (λ i cut. cut.state) (λ i cut. cut.state) one.0.2 one.2 two.2)
 
-  -- A link determines its generation and its view.
   same_link : (old : Links Gen T) (n : ℕ) (g h : Gen) (k l : RawLink (PackedOption I W) T) → link_at (entry old) (link_map old) n ≡ Some (g, link_view pointers.packed k) → link_at (entry old) (link_map old) n ≡ Some (h, link_view pointers.packed l)
       → pair_view pointers.packed (g, k) ≡ pair_view pointers.packed (h, l)
   same_link old n g h k l one two =
@@ -238,18 +219,15 @@ module _ {P T I Gen W : Type 0} (pointers : PointerKind P I Gen W) (same_key : (
       let pair : (g, link_view pointers.packed k) ≡ (h, link_view pointers.packed l) = cc in
       pair
 
-  -- There is an entry where there is a link.
   no_link : (old : Links Gen T) (n : ℕ) (e : Gen × LinkView T) → link_at (entry old) (link_map old) n ≡ Some e → entry old n ≡ None → ⊥
   no_link old n e is none = none-some e (sym (ap (λ (o : Option (Gen × T)). link_of o (link_map old n)) none) ∙ is)
 
   same_pointer : (old a b : Links Gen T) (kind : InsertKind P I) (t : T) (p q : P) → IsNewLinkAnyhow pointers old kind t a p → IsNewLinkAnyhow pointers old kind t b q → p ≡ q
   same_pointer old a b kind t p q one two = same_key p q (same one.pointer two.pointer)
 
-  -- The arena after an insertion, but for its capacity.
   abbrev added : Links Gen T → InsertKind P I → T → Links Gen T
   added old kind t = with_new_link pointers old kind t
 
-  -- How far an insertion grows the arena.
   grown_for_one : (old new : Links Gen T) (kind : InsertKind P I) (t : T) (p : P) → IsNewLinkAnyhow pointers old kind t new p → GrowsStackToFit pointers.greatest (entry_count old + 1) old (added old kind t) new
   grown_for_one old new kind t p made = record {
     state = made.state;
@@ -273,7 +251,6 @@ module _ {P T I Gen W : Type 0} (pointers : PointerKind P I Gen W) (same_key : (
   inserts_within_same old a b kind t r (Err failed.BeyondMaxCapacity) one two = absurd two.0
   inserts_within_same old a b kind t r (Err failed.AllocError) one two = absurd two.0
 
-  -- A drain is determined, since a walk is.
   drains_same : (old a b : Links Gen T) (p : ℕ × Gen) (take : ℕ) (r s : Option ℕ) → DrainChainStep pointers old p take r a → DrainChainStep pointers old p take s b → Same r s a b
   drains_same old a b p take None None one two = (refl, same one.1 two.1)
   drains_same old a b p take None (Some k) one two = absurd (one.0 two.valid)
@@ -282,13 +259,9 @@ module _ {P T I Gen W : Type 0} (pointers : PointerKind P I Gen W) (same_key : (
       let walks = no_other_walk (link_map old) p.0 one.walk two.walk one.is_walk two.is_walk in
       (ap Some (one.counted ∙ (ap (λ (w : List ℕ). min take (length w)) walks ∙ sym two.counted)), one.state ∙ (ap (without_each pointers.following old) walks ∙ sym two.state))
 
-  -- Two replies with the same result are the same.
   responded_same : {A : Type 0} (known : A → Reply P T I Gen W) (r s : Reply P T I Gen W) (x y : A) (a b : Links Gen T) → r ≡ known x → s ≡ known y → Same x y a b → SameButTouched r s a b
   responded_same known r s x y a b is_r is_s both = (reports_same r s (is_r ∙ (ap known both.0 ∙ sym is_s)), same_but_touched a b both.1)
 
-  -- Two replies are the same, and the arenas are the same but for capacity and touches. Or memory
-  -- for n links, at most `pointers.greatest`, was refused to one alone, and so the capacities
-  -- differ.
   abbrev AlikeOrApart : ℕ → Reply P T I Gen W → Reply P T I Gen W → Links Gen T → Links Gen T → Type 0
   AlikeOrApart n r s a b = (AreSameReplies pointers.packed r s × AreSameButCapacityAndTouched a b) ⊎ ((n ≤ pointers.greatest) × (refused_memory r ≡ refused_memory s → ⊥) × (HaveSameCapacity a b → ⊥))
 
@@ -338,11 +311,9 @@ module _ {P T I Gen W : Type 0} (pointers : PointerKind P I Gen W) (same_key : (
   responded_apart : {A : Type 0} (n : ℕ) (known : A → Reply P T I Gen W) (r s : Reply P T I Gen W) (x y : A) (a b : Links Gen T) → r ≡ known x → s ≡ known y → AlikeOrApart n (known x) (known y) a b → AlikeOrApart n r s a b
   responded_apart n known r s x y a b is_r is_s both = subst (λ q. AlikeOrApart n q s a b) (sym is_r) (subst (λ q. AlikeOrApart n (known x) q a b) (sym is_s) both)
 
-  -- With the same capacities, replies and arenas are the same but for touches.
   in_one_capacity : (n : ℕ) (r s : Reply P T I Gen W) (a b : Links Gen T) → HaveSameCapacity a b → AlikeOrApart n r s a b → SameButTouched r s a b
   in_one_capacity n r s a b within_capacity both = ⊎_elim (λ alike. (alike.0, same_with_capacity a b within_capacity alike.1)) (λ apart. absurd (apart.2 within_capacity)) both
 
-  -- The capacity sufficed already, and is unchanged.
   inserts_in_capacity : (old new : Links Gen T) (kind : InsertKind P I) (t : T) (r : Result P ChainInsertionError) → entry_count old < old.capacity → InsertStep pointers old kind t r new → HaveSameCapacity new old
   inserts_in_capacity old new kind t (Ok p) within_capacity step =
       capacity_stays pointers.greatest (entry_count old + 1) old (added old kind t) new (refl, refl) (omega (arith, within_capacity)) (grown_for_one old new kind t p step.2)
@@ -415,7 +386,6 @@ module _ {P T I Gen W : Type 0} (pointers : PointerKind P I Gen W) (same_key : (
       let rest = run_same one.0 calls replies others new (touch touches other) one.3 beside in
       ((step.0, rest.0), rest.1)
 
-  -- Two steps are alike, or an allocation failed to one alone.
   step_apart : (old : Links Gen T) (c : Call P T I Gen W) (r s : Reply P T I Gen W) (a b : Links Gen T) → Step pointers old c r a
       → Step pointers old c s b → AlikeOrApart (capacity_needed old c) r s a b
   step_apart old (call.Insert kind t) r s a b one two = responded_apart (entry_count old + 1) reply.Inserted r s one.0 two.0 a b one.1 two.1 (inserts_apart old a b kind t one.0 two.0 one.2 two.2)
@@ -425,7 +395,6 @@ module _ {P T I Gen W : Type 0} (pointers : PointerKind P I Gen W) (same_key : (
   pub step_alike : StepIsDetermined pointers T
   step_alike old c r s new other one two alike = ⊎_elim (λ both. both) (λ apart. absurd (apart.1 (alike apart.0))) (step_apart old c r s new other one two)
 
-  -- A run from a state with other touches.
   run_beside : (old before : Links Gen T) (calls : List (Call P T I Gen W)) (replies others : List (Reply P T I Gen W)) (new other : Links Gen T) → AreSameButTouched old before
       → RunWithSameCapacity pointers old before calls replies others new other → EndSame pointers replies others new other
   run_beside old before [] [] [] new other is runs = (tt, runs.0 ∙ (is ∙ ap₂ (λ (n : ℕ) (x : Links Gen T). touch n x) (ap (λ (x : Links Gen T). x.touched) (sym runs.0)) (sym runs.1)))

@@ -13,7 +13,6 @@ use Rattle.chain_arena.specs.Drains.{walk_left, IsDrainStep}
 use Rattle.chain_arena.specs.DrainLaws.{DrainGivesTheWalk}
 use Rattle.std.specs.Option.{option_map}
 
--- An item stored after a slot is freed was stored before.
 item_cleared : {X : Type 0} (xs : List (Option X)) (k m : ℕ) (x : X) → slice_index_or (slice_set xs k None) m None ≡ Some x → slice_index_or xs m None ≡ Some x
 item_cleared [] k m x is = is
 item_cleared (y ∷ xs) zero zero x is = absurd (cc)
@@ -27,13 +26,11 @@ slot_cleared slots (suc k) zero x is = absurd (cc)
 slot_cleared slots (suc k) (suc m) x is = item_cleared slots k m x is
 
 module _ {P Gen K T : Type 0} (key : P → ℕ × Gen) (number : K → Option ℕ) (following : Gen → Gen) (wraps : Gen → Bool) where
-  -- A pointer that is valid after a removal was valid before.
   valid_before : (old new : Arena Gen (LinkView T)) (i : ℕ) (p : ℕ × Gen) → new ≡ remove_link following old i → IsValid (entry new) p → IsValid (entry old) p
   valid_before old new i p gone valid =
       let values = ap (λ (a : Arena Gen (LinkView T)). values_of a) gone ∙ values_of-remove_link following old i in
       record { value = valid.value; stored = slot_cleared (values_of old).slots i p.0 (p.1, valid.value) (sym (ap (λ (a : Arena Gen T). entry_at a p.0) values) ∙ valid.stored) }
 
-  -- The link of a step was valid.
   step_valid : (old new : Arena Gen (LinkView T)) (at next : ℕ) (gone : InvalidationOption (P × RawLink K T)) → IsDrainStep key number following wraps old at gone new next
       → IsValid (entry old) (key (value_in gone).0)
   step_valid old new at next gone step =

@@ -23,7 +23,6 @@ use Rattle.chain_links.proofs.LinkStateLemmas.{entry_at-links_view}
 use Rattle.chain_linking.proofs.UnlinkLemmas.{link_map-written, link_map-renewed}
 
 module _ {Gen T : Type 0} where
-  -- A link with another value is written.
   value-written : (a : Arena Gen (LinkView T)) (n : ℕ) (l : LinkView T) (w : T) → option_map (λ (e : Gen × LinkView T). e.1) (entry_at a n) ≡ Some l
       → with_value a n (with_link_value w l) ≡ with_value_at a n w
   value-written a n l w stored = ap (λ (o : Option (Gen × LinkView T)). let b : Arena Gen (LinkView T) = record a { slots = with_slot a.slots n o } in b) (by (entry_at a n) stored) where
@@ -86,7 +85,6 @@ module _ {P I Gen W T : Type 0} (pointers : PointerKind P I Gen W) (a b : Arena 
       by (Success q) known is = let k = known.1 in (known.0, ((same_valid pointers.packed a (pointers.key p)).0 k.0, k.1, k.2, renewed q k.0 k.1 k.2 is))
       by (GenerationOverflow q) known is = let k = known.1 in (known.0, ((same_valid pointers.packed a (pointers.key p)).0 k.0, k.1, k.2, renewed q k.0 k.1 k.2 is))
 
-  -- What holds after it, if there was such a link.
   pub renewed_after : (o : Option P) → OnSome o (b ≡ invalidate_at pointers.following a (pointers.key p).0) → OnSome o ((viewed b ≡ invalidate_at pointers.following (viewed a) (pointers.key p).0) × (link_map (viewed b) ≡ link_map (viewed a)))
   renewed_after None known = tt
   renewed_after (Some q) is = (renewed-state pointers.packed pointers.following a b (pointers.key p).0 is, renewed-link_map pointers.packed pointers.following a b (pointers.key p).0 is)

@@ -9,11 +9,9 @@ use Rattle.chain_links.specs.ChainArena.{nonzero_index}
 use Rattle.chain_arena.specs.Effects.{Links}
 use Rattle.chain_arena.specs.NewLinks.{AreBesideNew, IsEntryFor}
 
--- A result is not both a value and an error.
 pub ok_apart : {A B : Type 0} (a : A) (b : B) → (let r : Result A B = Ok a in r ≡ Err b) → ⊥
 ok_apart a b is = let h = is in cc
 
--- The entry beside the links of a kind, after a growth if the arena was full.
 pub entry_for : {P I Gen W T : Type 0} (pointers : PointerKind P I Gen W) (may_reach : ℕ → Option ℕ → ℕ → ℕ → Type 0) (old mid arena : Links Gen T) (kind : InsertKind P I) (beside : Option I × Option I) (prev next : ℕ)
     → AreBesideNew pointers old kind beside → HasGrownFor may_reach pointers.greatest (entry_count old + 1) old mid → arena ≡ mid
     → nonzero_index prev ≡ option_map pointers.number beside.0 → nonzero_index next ≡ option_map pointers.number beside.1 → IsEntryFor pointers may_reach old kind arena prev next

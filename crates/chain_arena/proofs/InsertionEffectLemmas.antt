@@ -27,11 +27,9 @@ module _ {Gen T : Type 0} (a : Arena Gen (LinkView T)) (t : T) (listed : IsListe
       let links = (λ (m : LinkMap) (x y : Option ℕ) (fits : FitsLinks m base). FitsLinks-with_prev_at base _ y x (FitsLinks-with_next_at base m x y fits)) in
       links (with_neighbors (with_lone (link_map a) q) u (Some q)) (Some q) v (links (with_lone (link_map a) q) u (Some q) lone_fits)
 
-  -- The link map of the arena with a link between two others.
   pub link_map-insert_between : (u v : Option ℕ) → link_map (insert_between a t u v) ≡ with_insertion (link_map a) (next_index a) u v
   link_map-insert_between u v = link_map-with_link_map (insert_lone a t) (with_insertion (link_map a) (next_index a) u v) (fits_between u v)
 
-  -- The values of the arena with a link between two others.
   pub values_of-insert_between : (u v : Option ℕ) → values_of (insert_between a t u v) ≡ insert_next (values_of a) t
   values_of-insert_between u v =
       values_of-with_link_map (insert_lone a t) (with_insertion (link_map a) (next_index a) u v) (fits_between u v) ∙ with_each-insert_next link_value a (lone t)
@@ -51,7 +49,6 @@ module _ {Gen T : Type 0} (a : Arena Gen (LinkView T)) (t : T) (listed : IsListe
     known_values = ap (λ (x : Arena Gen (LinkView T)). values_of x) is
         ∙ ap (λ (x : Arena Gen T). with_capacity_of x (values_of b)) (values_of-insert_between u v)
 
-    -- There is one more link.
     pub known_more : count (value_view b) ≡ count (value_view a) + 1
     known_more =
         ap (λ (x : Arena Gen T). length (entries x)) known_values
@@ -59,7 +56,6 @@ module _ {Gen T : Type 0} (a : Arena Gen (LinkView T)) (t : T) (listed : IsListe
         ∙ (count-filled a.freed (values_of a).slots (a.counter, t) (listed-with_each link_value a listed).free
         ∙ ap (λ (n : ℕ). n + 1) (sym (length-entries (values_of a)))))
 
-    -- An insertion between two links, from the state alone.
     pub known_between : (p : ℕ × Gen) → p ≡ (next_index a, a.counter) → IsWellLinked (link_map a) → IsInsertPosition (link_map a) (next_index a) u v
         → IsInsertedBetween value_state link_map u v a t p b
     known_between p at agrees position =
@@ -80,7 +76,6 @@ module _ {Gen T : Type 0} (a : Arena Gen (LinkView T)) (t : T) (listed : IsListe
           maximum = ap (λ (x : Arena Gen (LinkView T)). x.maximum) is;
         })
 
-  -- An insertion of a kind, from the state alone.
   pub insertion_known : {P I W : Type 0} (pointers : PointerKind P I Gen W) (b : Arena Gen (LinkView T)) (kind : InsertKind P I) → b ≡ with_capacity_of (with_new_link pointers a kind t) b → (p : P) → pointers.key p ≡ (next_index a, a.counter)
       → IsWellLinked (link_map a) → IsInsertPosition (link_map a) (next_index a) (before_new pointers (link_map a) kind (next_index a)) (after_new pointers (link_map a) kind (next_index a))
       → IsLinkInserted value_state link_map pointers a kind t p b

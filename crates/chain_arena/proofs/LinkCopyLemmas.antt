@@ -24,7 +24,6 @@ use Rattle.arena_base.proofs.FoldLemmas.{folds_viewed, folds_mapped}
 use Rattle.chain_links.proofs.MappedArenaLemmas.{slot_at-map, length-with_each}
 use Rattle.chain_compaction.proofs.ValueViewLemmas.{entry_views-all, held_entries-all}
 
--- A value made, with views of the source value and of the result.
 abbrev made_as : {P U T W X : Type 0} → (U → W) → (T → X) → Copied P U T → Copied P W X
 made_as before after c = record { pointer = c.pointer; value = before c.value; returned = after c.returned }
 
@@ -67,7 +66,6 @@ first_value z [] = z
 first_value z (e ∷ es) = e.1
 
 module _ {Gen U T Z : Type 0} (f : U → Z) (g : T → Z) where
-  -- Slots whose entries have the same places and views have the same view.
   pub slots_alike : (i : ℕ) (a : List (Option (Gen × U))) (b : List (Option (Gen × T))) → generations b ≡ generations a → map (on_value g) (entries_from i b) ≡ map (on_value f) (entries_from i a)
       → map (option_map (on_value g)) b ≡ map (option_map (on_value f)) a
   slots_alike i [] [] places same = refl
@@ -89,7 +87,6 @@ module _ {Gen X Y : Type 0} (f : X → Y) where
   generations-map (Some e ∷ slots) = ap (λ gs. Some e.0 ∷ gs) (generations-map slots)
 
 module _ {P K U Gen : Type 0} (number : K → Option ℕ) (may_refuse : P → RawLink K U → Type 0) (key : P → ℕ × Gen) (source : Arena Gen (RawLink K U)) where
-  -- A link that may be refused, as contracts see it.
   pub refusable_viewed : HasRefusable may_refuse key (entries source) → HasRefusable (RefusesOf (link_view number) may_refuse) key (entries (links_view number source))
   refusable_viewed has = record {
     pointer = has.pointer;
@@ -113,7 +110,6 @@ copy_abandoned_agrees {Gen} {T} old new is =
     (subst IsWellLinked (λ j i. sym (nothing_at Gen T i) j) (record { both = λ i j. (λ never. cc, λ never. cc) }))
 
 module _ {Gen K U T : Type 0} (number : K → Option ℕ) where
-  -- A copy of an arena of links, as contracts see it.
   pub has_slots_viewed : (source : Arena Gen (RawLink K U)) (old new : Arena Gen (RawLink K T)) → HasSlotsOf source old new → HasSlotsOf (links_view number source) (links_view number old) (links_view number new)
   has_slots_viewed source old new has = record {
     state = ap (links_view number) has.state;
@@ -134,7 +130,6 @@ module _ {Gen K T : Type 0} (number : K → Option ℕ) where
       both None = refl
       both (Some e) = refl
 
--- The destination of a link, and none.
 abbrev body_destination : {K T : Type 0} → (K → Option ℕ) → RawLink K T → Option ℕ
 body_destination number l = number l.destination
 
@@ -198,12 +193,10 @@ module _ {F P K U T Gen : Type 0} (number : K → Option ℕ) (makes : F → P �
     maximum = copy.maximum;
   }
 
--- What a closure makes, if it is a part of what makes the values.
 pub called_of : {V F P K U T : Type 0} (g : Mut F (P × (Bor (RawLink K U) × Unit {0})) T) (see : V → F) (value_from : RawLink K U → LinkView U) (v : V) (p : P) (u : LinkView U) (t : T) (w : V)
     → MakesOf value_from (λ x p u t y. IsCopyCall g (see x) p u t (see y)) v p u t w → MakesOf value_from (IsCopyCall g) (see v) p u t (see w)
 called_of g see value_from v p u t w makes = record { passed = makes.passed; value_passed = makes.value_passed; made = makes.made }
 
--- What a closure makes in a copy of an arena of links.
 pub called_copies : {V F P K U T Gen : Type 0} (g : Mut F (P × (Bor (RawLink K U) × Unit {0})) T) (see : V → F) (value_from : RawLink K U → LinkView U) (key : P → ℕ × Gen) (f last : V) (source : Arena Gen (LinkView U)) (old new : Arena Gen (LinkView T))
     → IsLinkCopyBy (MakesOf value_from (λ x p u t y. IsCopyCall g (see x) p u t (see y))) key f source old new last → IsLinkCopyBy (MakesOf value_from (IsCopyCall g)) key (see f) source old new (see last)
 called_copies g see value_from key f last source old new copy = record {
@@ -212,7 +205,6 @@ called_copies g see value_from key f last source old new copy = record {
   values = made_by (MakesOf value_from (λ x p u t y. IsCopyCall g (see x) p u t (see y))) (MakesOf value_from (IsCopyCall g)) see (called_of g see value_from) key f last (entries source) (entries (values_of new)) copy.values;
 }
 
--- What a closure makes in a copy of any arena.
 pub called_copy : {V F P K U T Gen : Type 0} (g : Mut F (P × (Bor (RawLink K U) × Unit {0})) T) (see : V → F) (value_from : RawLink K U → LinkView U) (key : P → ℕ × Gen) (f last : V) (source : Arena Gen (LinkView U)) (old new : ArenaView Gen T)
     → IsCopyBy (MakesOf value_from (λ x p u t y. IsCopyCall g (see x) p u t (see y))) key f source old new last → IsCopyBy (MakesOf value_from (IsCopyCall g)) key (see f) source old new (see last)
 called_copy g see value_from key f last source old new copy =
@@ -262,13 +254,11 @@ module _ {P K U Gen : Type 0} (number : K → Option ℕ) (may_refuse : P → Ra
     by (inl ok) = false≢true (sym (ap is_ok is) ∙ ok)
     by (inr refused) = none_among refused.before refused.after (key refused.pointer, refused.value) (sym (ap (entries_from 1) (no_slots none)) ∙ refused.stored)
 
--- A clone is refused as the copy to a new arena is.
 pub refuses_clone : {Gen T : Type 0} (may_reach : ℕ → Option ℕ → ℕ → ℕ → Type 0) (greatest : ℕ) (first : Gen) (maximum : Option ℕ) (source : Arena Gen (LinkView T)) (r : Result (Unit {0}) ReallocationError) (why : ReallocationError) → r ≡ Err why
     → (r ≡ Err refused.BeyondMaxCapacity) ↔ IsBeyond maximum (length source.slots) → ClonesOrRefuses may_reach greatest first maximum source (Err why)
 refuses_clone may_reach greatest first maximum source r refused.BeyondMaxCapacity is known = known.0 is
 refuses_clone may_reach greatest first maximum source r refused.AllocError is known = λ over. let h = sym is ∙ known.1 over in absurd (cc)
 
--- A clone, as generic code sees it.
 pub copies_links : {Gen T : Type 0} (may_reach : ℕ → Option ℕ → ℕ → ℕ → Type 0) (greatest : ℕ) (first : Gen) (maximum : Option ℕ) (source : Arena Gen (LinkView T)) (r : Result (Arena Gen (LinkView T)) ReallocationError)
     → ClonesOrRefuses may_reach greatest first maximum source r → (source.slots ≡ [] → IsOk r) → CopiesLinks value_view link_map greatest maximum source r
 copies_links {Gen} {T} may_reach greatest first maximum source (Ok copy) cloned none =
@@ -291,34 +281,28 @@ copies_links {Gen} {T} may_reach greatest first maximum source (Err refused.Allo
     some [] filled = absurd (filled refl)
     some (x ∷ xs) filled = omega arith
 
--- A clone's capacity, if a clone was made.
 pub clone_reaches : {Gen T : Type 0} (may_reach : ℕ → Option ℕ → ℕ → ℕ → Type 0) (greatest : ℕ) (first : Gen) (maximum : Option ℕ) (source : Arena Gen (LinkView T)) (r : Result (Arena Gen (LinkView T)) ReallocationError)
     → ClonesOrRefuses may_reach greatest first maximum source r → IfOk r (λ copy. IsClone first maximum source copy × ReachesCapacity may_reach greatest (length source.slots) (new_arena first maximum) copy)
 clone_reaches may_reach greatest first maximum source (Ok copy) cloned = (cloned.0, cloned.1)
 clone_reaches may_reach greatest first maximum source (Err why) cloned = tt
 
--- What follows from a success and from either sort of refusal.
 pub either_way : {X E A B C D N : Type 0} (r : Result X E) → (A → B → C) → (D → C) → (N → C) → OnOk r A → OnOk r B → OnErr r (D ⊎ N) → C
 either_way (Ok x) done refused gave_up a b d = done a b
 either_way (Err e) done refused gave_up a b (inl d) = refused d
 either_way (Err e) done refused gave_up a b (inr n) = gave_up n
 
--- A fact on `Ok` from three others.
 pub on_ok_three : {X E A B C D : Type 0} (r : Result X E) → (A → B → C → D) → OnOk r A → OnOk r B → OnOk r C → OnOk r D
 on_ok_three (Ok x) all a b c = all a b c
 on_ok_three (Err e) all a b c = tt
 
--- A fact on `Ok` from four others.
 pub on_ok_four : {X E A B C D F : Type 0} (r : Result X E) → (A → B → C → D → F) → OnOk r A → OnOk r B → OnOk r C → OnOk r D → OnOk r F
 on_ok_four (Ok x) all a b c d = all a b c d
 on_ok_four (Err e) all a b c d = tt
 
--- Without a success, a value may be refused.
 refusable_at : {R : Type 0} (e : ReallocationError) → (let r : Result (Unit {0}) ReallocationError = Err e in IsOk r ⊎ R) → R
 refusable_at e (inl ok) = absurd (false≢true ok)
 refusable_at e (inr refusable) = refusable
 
--- The outcome of a copy, from a fact on each result.
 pub copies_or_refuses : {R S N : Type 0} (C L : Type 0) (n capacity : ℕ) (maximum : Option ℕ) (r : Result (Unit {0}) ReallocationError) → (n ≤ capacity → (IsOk r ⊎ R) × N)
     → (r ≡ Err refused.BeyondMaxCapacity) ↔ IsBeyond maximum n → (r ≡ Err refused.BeyondMaxCapacity → S) → OnOk r C → OnErr r (S ⊎ (R × L)) → CopiesOrRefuses n capacity maximum R C S L r
 copies_or_refuses C L n capacity maximum (Ok done) within beyond unchanged copied err = (copied, λ over. let h = beyond.1 over in absurd (cc))
@@ -326,12 +310,10 @@ copies_or_refuses C L n capacity maximum (Err refused.BeyondMaxCapacity) within 
 copies_or_refuses C L n capacity maximum (Err refused.AllocError) within beyond unchanged copied err =
     (err, (λ over. let h = beyond.1 over in absurd (cc)), λ few. refusable_at refused.AllocError (within few).0)
 
--- What follows from the first case, where the second does not hold.
 kept_in : {S X K : Type 0} → (S → K) → (X → ⊥) → S ⊎ X → K
 kept_in kept never (inl same) = kept same
 kept_in kept never (inr lost) = absurd (never lost)
 
--- Where no value is refused, an error means that the capacity does not suffice.
 pub copies_or_lacks : {R C S D K : Type 0} (L : Type 0) (n capacity : ℕ) (maximum : Option ℕ) (r : Result (Unit {0}) ReallocationError) → (R → ⊥) → (C → D) → (S → K)
     → CopiesOrRefuses n capacity maximum R C S L r → CopiesOrLacksCapacity n capacity maximum D K r
 copies_or_lacks L n capacity maximum (Ok done) never made kept outcome = (made outcome.0, outcome.1)

@@ -24,7 +24,6 @@ use Rattle.chain_arena.specs.Drains.{entries_left, without_each, IsLinkTaken, Is
 use Rattle.chain_arena.proofs.ChainDrainLemmas.{is_overflow_result-made}
 use Rattle.chain_linking.proofs.UnlinkLemmas.{view_after-removed}
 
--- The value in a result with an overflow flag.
 value_in-made : {X : Type 0} (overflow : Bool) (x : X) → value_in (invalidation_option overflow x) ≡ x
 value_in-made true x = refl
 value_in-made false x = refl
@@ -34,7 +33,6 @@ is_overflow-made true x = refl
 is_overflow-made false x = refl
 
 module _ {Gen T : Type 0} where
-  -- There is no entry above the greatest index.
   entries_at_or_above-beyond : (greatest i : ℕ) (es : List ((ℕ × Gen) × T)) → greatest < i → All (λ e. IsWithin greatest (index_of e)) es → entries_at_or_above i es ≡ []
   entries_at_or_above-beyond greatest i [] beyond within = refl
   entries_at_or_above-beyond greatest i (e ∷ es) beyond within =
@@ -97,7 +95,6 @@ module _ {Gen T : Type 0} where
       by true here rest = first_here i p e es (omega arith, ascends.1) here first
       by false later rest = first_later i p e es later (rest (first ∙ ap (λ b. first_key (cond b (e ∷ es) (entries_at_or_above i es))) later))
 
-  -- The first remaining link of an arena.
   pub first_left : (a : Arena Gen (LinkView T)) (at : ℕ) (p : ℕ × Gen) → Some p ≡ first_key (entries_left a at)
       → (t : T) × (entry_at (values_of a) p.0 ≡ Some (p.1, t)) × (entries_left a at ≡ (p, t) ∷ entries_at_or_above p.0 (without_index p.0 (entries (values_of a)))) × (1 ≤ p.0)
       × (entries_at_or_above p.0 (without_index p.0 (entries (values_of a))) ≡ entries_at_or_above (suc p.0) (without_index p.0 (entries (values_of a))))
@@ -109,7 +106,6 @@ module _ {Gen T : Type 0} where
   pub first_has : (a : Arena Gen (LinkView T)) (at : ℕ) (p : ℕ × Gen) → Some p ≡ first_key (entries_left a at) → entry_at (values_of a) p.0 ≡ None → ⊥
   first_has a at p first none = let both = sym none ∙ (first_left a at p first).1 in cc
 
-  -- Nothing is left from a number on that is no index.
   pub none_left : (greatest : ℕ) (a : Arena Gen (LinkView T)) (at : ℕ) → (IsWithin greatest at → ⊥) → All (λ e. IsWithin greatest (index_of e)) (entries (values_of a)) → entries_left a at ≡ []
   none_left greatest a zero beyond within = refl
   none_left greatest a (suc k) beyond within = entries_at_or_above-beyond greatest (suc k) (entries (values_of a)) (omega (arith, λ (le : suc k ≤ greatest). beyond (omega arith, le))) within
@@ -131,24 +127,20 @@ module _ {Gen T : Type 0} where
       let later = entries_from (suc j) slots in
       ap (λ b. first_key (cond b (((j, x.0), x.1) ∷ later) (entries_at_or_above i later))) (lt-leb i j (omega (arith, at))) ∙ first_at i (suc j) k e slots (omega (arith, at)) stored
 
-  -- A link at an index is the first link from it on.
   pub stored_first : (a : Arena Gen (LinkView T)) (at : ℕ) (p : ℕ × Gen) (t : T) → p.0 ≡ at → entry_at (values_of a) at ≡ Some (p.1, t) → Some p ≡ first_key (entries_left a at)
   stored_first a zero p t is stored = absurd (let h = stored in cc)
   stored_first a (suc k) p t is stored =
       sym (first_at (suc k) 1 k (p.1, t) (values_of a).slots (omega arith) stored ∙ ap (λ (n : ℕ). let o : Option (ℕ × Gen) = Some (n, p.1) in o) (sym is))
 
-  -- All links are left from the first index on.
   pub all_left : (a : Arena Gen (LinkView T)) → entries_left a 1 ≡ entries (values_of a)
   all_left a = entries_at_or_above-ascends 1 1 (entries (values_of a)) (omega arith) (entries_ascend (values_of a))
 
-  -- After the removal of all links, none is left.
   pub without_each-all : (following : Gen → Gen) (a : Arena Gen (LinkView T)) (es : List ((ℕ × Gen) × T)) → entries (values_of a) ≡ es → entries (values_of (without_each following a (map index_of es))) ≡ []
   without_each-all following a [] all = all
   without_each-all following a (e ∷ es) all = without_each-all following (remove_link following a e.0.0) es
       (ap (λ (s : ArenaView Gen T). s.entries) (view_after-removed following a (remove_link following a e.0.0) e.0.0 refl)
       ∙ (ap (without_index e.0.0) all ∙ ap (λ b. cond b es (e ∷ without_index e.0.0 es)) (eq-eqb e.0.0 e.0.0 refl)))
 
--- A result made from an overflow flag reports that flag.
 pub overflow_known : {X : Type 0} (w : Bool) (r : InvalidationResult X) (x : X) → r ≡ invalidation_result w (value_within r) → value_within r ≡ Some x → is_overflow_result r ≡ w
 overflow_known w r x made has = ap is_overflow_result made ∙ (ap (λ (o : Option _). is_overflow_result (invalidation_result w o)) has ∙ is_overflow_result-made w x)
 
@@ -170,7 +162,6 @@ module _ {P Gen T : Type 0} (key : P → ℕ × Gen) (following : Gen → Gen) (
     value_is : taken ≡ Some (first_left old at (key p) first).0
     value_is = value ∙ ap (option_map (λ (e : Gen × T). e.1)) (first_left old at (key p) first).1
 
-    -- The links left after the first one are left by the step.
     left_behind : IsBehind (key p).0 next → entries (values_of new) ≡ without_index (key p).0 (entries (values_of old)) → entries_at_or_above (key p).0 (without_index (key p).0 (entries (values_of old))) ≡ entries_left new next
     left_behind index es =
         let met = first_left old at (key p) first in
@@ -202,7 +193,6 @@ module _ {P Gen T : Type 0} (key : P → ℕ × Gen) (following : Gen → Gen) (
           state = removal ∙ ap (λ (x : P × T). remove_link following old (key x.0).0) (sym item);
         }
 
-  -- What a removal returned is the link that was there.
   pub link_taken : {K : Type 0} (packed : K → Option ℕ) (old new : Arena Gen (LinkView T)) (i : ℕ) (r : InvalidationResult (Gen × RawLink K T)) (e : Gen × RawLink K T) → value_within r ≡ Some e
       → option_map (pair_view packed) (value_within r) ≡ entry_at old i → r ≡ invalidation_result (wraps old.counter) (value_within r) → (is_some (value_within r) ≡ true → IsRemoval following old i new)
       → (p : P) → key p ≡ (i, e.0) → (overflow : Bool) → overflow ≡ is_overflow_result r → (gone : InvalidationOption (P × T)) → gone ≡ invalidation_option overflow (p, e.1.t) → IsLinkTaken key following wraps old i gone new
@@ -219,7 +209,6 @@ module _ {P Gen T : Type 0} (key : P → ℕ × Gen) (following : Gen → Gen) (
         state = (removal (ap is_some has)).state;
       }
 
-  -- The removal of the first remaining link by its index is a step.
   taken_made : (gone : InvalidationOption (P × T)) → gone ≡ invalidation_option (is_overflow gone) ((value_in gone).0, (value_in gone).1)
   taken_made (option.Success t) = refl
   taken_made (option.GenerationOverflow t) = refl
@@ -233,7 +222,6 @@ module _ {P Gen T : Type 0} (key : P → ℕ × Gen) (following : Gen → Gen) (
       drained_first old new at next p first (Some t) (sym (ap (option_map (λ (e : Gen × T). e.1)) (ap (entry_at (values_of old)) taken.index ∙ taken.stored)))
       t (is_overflow gone) gone (view_after-removed following old new (key p).0 state) state refl taken.overflow (taken_made gone) (subst (λ j. IsBehind j next) (sym taken.index) behind)
 
-  -- The link taken at the index of the first remaining link is that link.
   pub same_first : (old new : Arena Gen (LinkView T)) (at i : ℕ) (p : P) (gone : InvalidationOption (P × T)) → (key p).0 ≡ i → Some (key p) ≡ first_key (entries_left old at)
       → IsLinkTaken key following wraps old i gone new → Some (key (value_in gone).0) ≡ first_key (entries_left old at)
   same_first old new at i p gone named first taken =
@@ -245,14 +233,12 @@ module _ {P Gen T : Type 0} (key : P → ℕ × Gen) (following : Gen → Gen) (
       let keyed : q ≡ key p = ap (λ (n : ℕ). let k : ℕ × Gen = (n, q.1) in k) (taken.index ∙ sym named) ∙ ap (λ (h : Gen). let k : ℕ × Gen = ((key p).0, h) in k) (sym generation) in
       ap (λ (k : ℕ × Gen). let o : Option (ℕ × Gen) = Some k in o) keyed ∙ first
 
-  -- A step keeps the arena that removing the remaining links gives.
   pub without_each-first : (old new : Arena Gen (LinkView T)) (at next : ℕ) (gone : InvalidationOption (P × T)) → IsLinkDrainStep key following wraps old at gone new next
       → without_each following new (map index_of (entries_left new next)) ≡ without_each following old (map index_of (entries_left old at))
   without_each-first old new at next gone step =
       ap (λ (a : Arena Gen (LinkView T)). without_each following a (map index_of (entries_left new next))) step.state
       ∙ sym (ap (λ (es : List ((ℕ × Gen) × T)). without_each following old (map index_of es)) step.left)
 
-  -- A step leaves fewer links.
   pub entries_left-step : (old new : Arena Gen (LinkView T)) (at next : ℕ) (gone : InvalidationOption (P × T)) → IsLinkDrainStep key following wraps old at gone new next
       → length (entries_left new next) < length (entries_left old at)
   entries_left-step old new at next gone step = let longer = ap (length {A = (ℕ × Gen) × T}) step.left in omega (arith, longer)

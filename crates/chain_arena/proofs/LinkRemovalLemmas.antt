@@ -21,7 +21,6 @@ use Rattle.chain_arena.specs.Effects.{Links, IsRemoval}
 use Rattle.chain_arena.specs.Steps.{RemoveInxStep}
 use Rattle.chain_arena.proofs.ChainDrainLemmas.{link_at-entry}
 
--- The outcome of a removal or invalidation, from its value and whether the counter wraps.
 pub reports : {X Gen : Type 0} (wraps : Gen → Bool) (counter : Gen) (Invalid : Type 0) (Done : X → Type 0) (r : InvalidationResult X) → r ≡ invalidation_result (wraps counter) (value_within r)
     → (value_within r ≡ None → Invalid) → ((x : X) → value_within r ≡ Some x → Done x) → ReportsOverflow wraps (Some counter) Invalid Done r
 reports wraps counter Invalid Done InvalidPtr known invalid done = invalid refl
@@ -41,7 +40,6 @@ if_none None so = so refl
 if_none (Some x) so = tt
 
 module _ {X Y : Type 0} (f : X → Y) (Z : Type 0) where
-  -- What holds if nothing, or something, was removed, holds with a function applied to it.
   pub none_with_value : (r : InvalidationResult X) → IfNone (value_within r) Z → IfNone (value_within (with_value_of f r)) Z
   none_with_value InvalidPtr known = known
   none_with_value (Success x) known = tt
@@ -52,7 +50,6 @@ module _ {X Y : Type 0} (f : X → Y) (Z : Type 0) where
   some_with_value (Success x) known = known
   some_with_value (GenerationOverflow x) known = known
 
--- What holds if something was removed.
 pub holds_if_some : {X Y : Type 0} (o : Option X) → OnSome o Y → is_some o ≡ true → Y
 holds_if_some None known some = absurd (let h = some in cc)
 holds_if_some (Some x) known some = known
@@ -61,12 +58,10 @@ pub on_some : {X Y : Type 0} (o : Option X) → (is_some o ≡ true → Y) → O
 on_some None known = tt
 on_some (Some x) known = known refl
 
--- A removal keeps the links well linked, if there is one or not.
 pub agreed_after : {Gen T K : Type 0} (following : Gen → Gen) (a b : Links Gen T) (n : ℕ) (taken : Option K) → (is_some taken ≡ true → b ≡ remove_link following a n) → (taken ≡ None → b ≡ a) → IsWellLinked (link_map a) → IsWellLinked (link_map b)
 agreed_after following a b n None valid invalid agrees = subst (λ x. IsWellLinked (link_map x)) (sym (invalid refl)) agrees
 agreed_after following a b n (Some e) valid invalid agrees = removed-agrees following a b n (valid refl) agrees
 
--- The effects of a removal, from the state.
 pub removal_of : {Gen T : Type 0} (following : Gen → Gen) (a b : Links Gen T) (n : ℕ) → IsWellLinked (link_map a) → b ≡ remove_link following a n → IsRemoval following a n b
 removal_of following a b n agrees state = record {
   removed = record { view_after = view_after-removed following a b n state; links = passes_over following a b n state; chains = removed-chains following a b n state agrees };
@@ -82,19 +77,15 @@ module _ {Gen K T : Type 0} (packed : K → Option ℕ) (following : Gen → Gen
     twice None = refl
     twice (Some e) = refl
 
-  -- The link removed, with its generation.
   pub link_known : option_map (on_value (link_view packed)) taken ≡ link_at (entry a) (link_map a) n
   link_known = returned ∙ sym (link_at-entry a n)
 
-  -- The value removed, with its generation.
   pub value_known : option_map (λ (e : Gen × RawLink K T). (e.0, e.1.t)) taken ≡ entry a n
   value_known = value
 
-  -- If nothing was taken, there is no entry.
   pub none_there : taken ≡ None → entry a n ≡ None
   none_there none = sym value ∙ ap (option_map (on_value held_in)) none
 
--- The entry of a link.
 entry_of_link : {Gen T : Type 0} (o : Option (Gen × T)) (l : Option Interlinks) (g : Gen) (link : LinkView T) → link_of o l ≡ Some (g, link) → o ≡ Some (g, link.value)
 entry_of_link None l g link is = absurd (let h = is in cc)
 entry_of_link (Some e) None g link is = absurd (let h = is in cc)
@@ -103,7 +94,6 @@ entry_of_link {Gen} {T} (Some e) (Some l) g link is =
     ap (option_map (on_value link_value)) both
 
 module _ {P I Gen W T : Type 0} (pointers : PointerKind P I Gen W) (a b : Links Gen T) where
-  -- The removal of the link at an index, from what was taken there.
   pub unlinked : (i : I) (r : InvalidationResult (Gen × RawLink (PackedOption I W) T)) → option_map (pair_view pointers.packed) (value_within r) ≡ entry_at a (pointers.number i) → r ≡ invalidation_result (pointers.wraps a.counter) (value_within r)
       → (is_some (value_within r) ≡ true → IsRemoval pointers.following a (pointers.number i) b) → (value_within r ≡ None → b ≡ a) → RemoveInxStep pointers a i r b
   unlinked i r returned overflow removal invalid =
@@ -114,11 +104,9 @@ module _ {P I Gen W T : Type 0} (pointers : PointerKind P I Gen W) (a b : Links 
         on_some (value_within r) removal,
       )
 
-  -- The entry of a link that was taken is removed.
   pub entry_taken : (n : ℕ) (g : Gen) (link : RawLink (PackedOption I W) T) → IsTaken value_state link_map pointers a n g link b → IsEntryRemoved value_state pointers a n g link.t b
   entry_taken n g link taken = (entry_of_link (entry a n) (link_map a n) g (link_view pointers.packed link) taken.0, taken.1.view_after)
 
-  -- A removal at an index removes an entry.
   pub value_removed_at : (i : I) (r : InvalidationResult (Gen × RawLink (PackedOption I W) T)) → RemovesLinkAt value_state link_map pointers a i r b → RemovesEntryAt value_state pointers a i (with_value_of (λ (e : Gen × RawLink (PackedOption I W) T). (e.0, e.1.t)) r) b
   value_removed_at i InvalidPtr known = known
   value_removed_at i (Success e) known = (known.0, entry_taken (pointers.number i) e.0 e.1 known.1)
@@ -128,7 +116,6 @@ module _ {P I Gen W T : Type 0} (pointers : PointerKind P I Gen W) (a b : Links 
     abbrev k : ℕ × Gen
     k = pointers.key p
 
-    -- The link taken at the index of a valid pointer is the pointer's.
     its_link : (n : ℕ) (g : Gen) (link : RawLink (PackedOption I W) T) → n ≡ k.0 → IsTaken value_state link_map pointers a n g link b → IsTaken value_state link_map pointers a k.0 k.1 link b
     its_link n g link at taken =
         let stored : entry a k.0 ≡ Some (g, link.t) = ap (λ j. entry a j) (sym at) ∙ (entry_taken n g link taken).0 in
@@ -138,7 +125,6 @@ module _ {P I Gen W T : Type 0} (pointers : PointerKind P I Gen W) (a b : Links 
     not_there : (n : ℕ) → n ≡ k.0 → entry a n ≡ None → ⊥
     not_there n at none = none-some _ (sym none ∙ (ap (λ j. entry a j) at ∙ valid.stored))
 
-    -- A removal by a valid pointer removes its link, and so its entry.
     pub link_removed : (i : I) (r : InvalidationResult (Gen × RawLink (PackedOption I W) T)) → pointers.number i ≡ k.0 → RemovesLinkAt value_state link_map pointers a i r b → RemovesLink value_state link_map pointers a p (with_value_of (λ (e : Gen × RawLink (PackedOption I W) T). e.1) r) b
     link_removed i InvalidPtr at known = absurd (not_there (pointers.number i) at known)
     link_removed i (Success e) at known = (known.0, (valid, its_link (pointers.number i) e.0 e.1 at known.1))

@@ -32,16 +32,12 @@ use Rattle.chain_arena.specs.NewLinks.{ReturnsBeside, AreBesideNew, InsertsBesid
 use Rattle.chain_arena.specs.Effects.{Links}
 use Rattle.chain_arena.proofs.InsertionEffectLemmas.{insertion_known}
 
--- The next index, in the links as contracts see them.
 pub next_viewed : {K Gen T : Type 0} (packed : K → Option ℕ) (a : Arena Gen (RawLink K T)) (p : ℕ × Gen) → p ≡ (next_index a, a.counter) → p ≡ (next_index (links_view packed a), a.counter)
 next_viewed packed a p at = subst (λ (q : ℕ). p ≡ (q, a.counter)) (sym (next_index-links_view packed a)) at
 
 pub less_entries : {K Gen T : Type 0} (packed : K → Option ℕ) (a : Arena Gen (RawLink K T)) {n : ℕ} → entry_count (links_view packed a) < n → entry_count a < n
 less_entries packed a less = let same = entry_count-links_view packed a in omega (arith, less, same)
 
--- ---- what was read of a link
-
--- What is returned beside a new link, in other words.
 pub returns_beside : {I : Type 0} (number : I → ℕ) (may may' : Type 0) (u v u' v' : Option ℕ) (r : Option (Option I × Option I)) → ReturnsBeside number may u v r → may ↔ may' → (may' → u ≡ u') → (may' → v ≡ v')
     → ReturnsBeside number may' u' v' r
 returns_beside number may may' u v u' v' None is same before after = record { some = (λ h. absurd (false≢true h), λ h. is.some.1 (same.1 h)); beside = tt }
@@ -95,9 +91,6 @@ module _ {Gen K T : Type 0} (packed : K → Option ℕ) (a : Arena Gen (RawLink 
       by_entry (Some link) None there is = absurd (let h = is in cc)
       by_entry (Some link) (Some (g, l)) there is = let same : link.now ≡ l = cc in ((λ _. stored (Some (g, l)) there, λ _. refl), links-view_after packed a i g link.now (there ∙ ap (λ (x : RawLink K T). let o : Option (Gen × RawLink K T) = Some (g, x) in o) (sym same)))
 
--- ---- growth for one more link
-
--- A growth changes only the capacities.
 pub grown_state : {Gen T : Type 0} (may_reach : ℕ → Option ℕ → ℕ → ℕ → Type 0) (greatest : ℕ) (a b : Arena Gen T) (r : Result Unit ReallocationError) → GrowsArenaForOneMore may_reach greatest a r b → OnErr r (b ≡ a) → b ≡ with_capacity_of a b
 grown_state may_reach greatest a b (Ok done) grown err = grown.state
 grown_state {Gen = Gen} {T = T} may_reach greatest a b (Err why) grown err = err ∙ ap (λ (x : Arena Gen T). with_capacity_of a x) (sym err)
@@ -120,7 +113,6 @@ module _ {Gen K T : Type 0} (packed : K → Option ℕ) (a : Arena Gen (RawLink 
   refused_view refused.BeyondMaxCapacity refuses = (sym same_count ∙ refuses.0, subst (λ (n : ℕ). IsBeyond a.maximum (n + 1)) same_count refuses.1)
   refused_view refused.AllocError refuses = (sym same_count ∙ refuses.0, λ beyond. refuses.1 (subst (λ (n : ℕ). IsBeyond a.maximum (n + 1)) (sym same_count) beyond))
 
--- The refusal of a growth is that of the insertion.
 pub insertion_refused : (may : Type 0) (refuses : ReallocationError → Type 0) (why : ReallocationError) (e : ChainInsertionError) → e ≡ insertion_error why → may → refuses why → IsInsertionRefusal may refuses e
 insertion_refused may refuses refused.BeyondMaxCapacity e is given refuses_it = subst (IsInsertionRefusal may refuses) (sym is) (given, refuses_it)
 insertion_refused may refuses refused.AllocError e is given refuses_it = subst (IsInsertionRefusal may refuses) (sym is) (given, refuses_it)
@@ -129,7 +121,6 @@ pub free_capacity : {Gen T : Type 0} (old : Links Gen T) → HasFreeCapacity (va
 free_capacity old less = let counted = values-count old in omega (arith, less, counted)
 
 module _ {Gen T : Type 0} (may_reach : ℕ → Option ℕ → ℕ → ℕ → Type 0) (greatest : ℕ) (old : Links Gen T) where
-  -- Free capacity is capacity for one more link, without a growth.
   pub has_capacity : (n : ℕ) → HasCapacityFor greatest n old → HasFreeCapacity (value_view old) → HasGrownFor may_reach greatest (entry_count old + 1) old old
   has_capacity n held less = record {
     state = refl;
@@ -150,13 +141,10 @@ module _ {Gen T : Type 0} (may_reach : ℕ → Option ℕ → ℕ → ℕ → Ty
     pub grown_within : entry_count old < greatest
     grown_within = let fits = grown.capacity.capacity.0.fits in let most = grown.capacity.capacity.0.at_most_greatest in omega (arith, fits, most)
 
--- ---- the links beside a new one of a kind
-
 module _ {P I Gen W T : Type 0} (pointers : PointerKind P I Gen W) (old : Links Gen T) (kind : InsertKind P I) where
   abbrev May : Type 0
   May = MayInsertIn value_state link_map pointers old kind
 
-  -- The insertion position of a kind that may be inserted.
   pub may_position : IsWellLinked (link_map old) → May → (q : ℕ) → IsInsertPosition (link_map old) q (before_new pointers (link_map old) kind q) (after_new pointers (link_map old) kind q)
   may_position agrees may q =
       kind_position (λ p. (pointers.key p).0) pointers.number (λ p. IsValid (entry old) (pointers.key p)) (λ i. IsSome (entry old (pointers.number i))) (link_map old)
@@ -192,7 +180,6 @@ module _ {P I Gen W T : Type 0} (pointers : PointerKind P I Gen W) (old : Links 
             let known = subst (λ (a : Links Gen T). IsListed a) grown.state insertion.listed in
             record { apart = known.apart; free = known.free; listed = known.listed }
 
-        -- A link is inserted beside those of its kind.
         pub new_link : InsertsNewLink pointers may_reach old kind t p new
         new_link =
             let is = inserted_grown in

@@ -19,18 +19,15 @@ use Rattle.chain_arena.specs.Transfers.{TransferredLink, old_index}
 use Rattle.chain_arena.specs.PointerTransfers.{IsMapped, TransferMovesPointers}
 
 module _ {P Gen T : Type 0} (key : P → ℕ × Gen) (first : Gen) (following : Gen → Gen) (reset : Bool) (old new : Arena Gen (LinkView T)) (moves : List (P × P)) where
-  -- There is a link exactly where there is an entry.
   links_stored : HasLinksWhere (link_map old) (entry old)
   links_stored i = is_some-map interlinks_of (slot_at old.slots i) ∙ sym (ap is_some (entry_at-with_each link_value old i) ∙ is_some-map (on_value link_value) (slot_at old.slots i))
 
-  -- The old and new pointers of all links are moves.
   pub arena_moves_pointers : IsCanonicalLayout first following reset (value_view old) (link_map old) (value_view new) (link_map new) → AreAllMoves key (value_view old) (link_map old) new.counter moves → ArePointerMoves key (entry old) (entry new) moves
   arena_moves_pointers layout all =
       compression_moves_pointers key first following reset (value_view old) (value_view new) (link_map old) (link_map new) (entry old) (entry new) moves (found-entries (values_of old)) (found-entries (values_of new)) links_stored layout
       (subst (λ (g : Gen). AreAllMoves key (value_view old) (link_map old) g moves) layout.is_counter all)
 
 module _ {Q P G Gen U T : Type 0} (key : Q → ℕ × G) (new_key : P → ℕ × Gen) (before : ℕ → Option (G × U)) (after : ℕ → Option (Gen × T)) where
-  -- The entries that the links have become, with their pointers.
   abbrev arrived : List (TransferredLink Q P U T) → List ((ℕ × Gen) × T)
   arrived transferred = map (λ (c : TransferredLink Q P U T). (new_key c.to, c.returned)) transferred
 
@@ -38,7 +35,6 @@ module _ {Q P G Gen U T : Type 0} (key : Q → ℕ × G) (new_key : P → ℕ ×
   keys_arrived [] = refl
   keys_arrived (c ∷ transferred) = ap (λ (ps : List (ℕ × Gen)). new_key c.to ∷ ps) (keys_arrived transferred)
 
-  -- Each link transferred over is a move.
   each_moved : (es : List ((ℕ × G) × U)) (transferred : List (TransferredLink Q P U T)) → ((i : ℕ) → found i es ≡ before i)
       → AllByRecursion (λ (c : TransferredLink Q P U T). found (old_index key c) es ≡ Some ((key c.from).1, value_in c.value)) transferred
       → AllByRecursion (λ (e : (ℕ × Gen) × T). after e.0.0 ≡ Some (e.0.1, e.1)) (arrived transferred) → AllByRecursion (IsMove (λ (c : TransferredLink Q P U T). key c.from) (λ (c : TransferredLink Q P U T). new_key c.to) IsMapped before after) transferred
@@ -52,7 +48,6 @@ module _ {Q P G Gen U T : Type 0} (key : Q → ℕ × G) (new_key : P → ℕ ×
     each_moved es transferred was_read was_stored.1 are_stored.1,
   )
 
--- A transfer moves pointers.
 pub transfer_moves_pointers : {Q P G Gen U T F : Type 0} (key : Q → ℕ × G) (new_key : P → ℕ × Gen) (following : G → G) (wraps : G → Bool) (call : Mut F (Q × (InvalidationOption U × (P × Unit {0}))) T)
     → TransferMovesPointers key new_key following wraps call
 transfer_moves_pointers {Q} {P} {G} {Gen} {U} {T} {F} key new_key following wraps call generation f source source_after links old new before was_read are_stored transfer =

@@ -16,7 +16,6 @@ use Rattle.chain_arena.specs.Recasts.{link_without_value, AreAllRecast, IsRecast
 use Rattle.chain_traits.proofs.GenericArenaLemmas.{entries_at_or_above-ascends}
 use Rattle.chain_links.proofs.MappedArenaLemmas.{map-with_slot, slot_at-map}
 
--- Writing back what a slot holds changes nothing.
 with_slot-own : {X : Type 0} (slots : List (Option X)) (n : ℕ) → with_slot slots n (slot_at slots n) ≡ slots
 with_slot-own slots zero = refl
 with_slot-own {X} slots (suc k) = by slots k where
@@ -26,11 +25,9 @@ with_slot-own {X} slots (suc k) = by slots k where
   by (x ∷ xs) (suc j) = ap (λ rest. x ∷ rest) (by xs j)
 
 module _ {Gen T : Type 0} where
-  -- An entry without its value.
   abbrev bare : Option (Gen × LinkView T) → Option (Gen × LinkView (Unit {0}))
   bare o = option_map (on_value link_without_value) o
 
-  -- A write of a value keeps everything else.
   pub value-written : (a : Arena Gen (LinkView T)) (i : ℕ) (t : T) → with_each link_without_value (with_value_at a i t) ≡ with_each link_without_value a
   value-written a i t = ap (λ (slots : List (Option (Gen × LinkView (Unit {0})))). let b : Arena Gen (LinkView (Unit {0})) = record (with_each link_without_value a) { slots = slots } in b)
       (map-with_slot bare a.slots i (option_map (on_value (with_link_value t)) (entry_at a i))
@@ -44,7 +41,6 @@ module _ {Gen T : Type 0} where
   value_or other None = other
   value_or other (Some e) = e.1
 
-  -- An entry after others.
   ascends_to : (front : List ((ℕ × Gen) × T)) (e : (ℕ × Gen) × T) (rest : List ((ℕ × Gen) × T)) (m : ℕ) → AscendsFrom m (front ++ e ∷ rest) → m ≤ e.0.0
   ascends_to [] e rest m ascends = ascends.0
   ascends_to (f ∷ front) e rest m ascends = let later = ascends_to front e rest (suc f.0.0) ascends.1 in omega (arith, ascends.0, later)
@@ -118,7 +114,6 @@ module _ {T I : Type 0} (recasts : T → T → Result (Unit {0}) I → Type 0) w
       left_ahead : ahead cursor (value_view now).entries ≡ at.left
       left_ahead = ap (λ (l : Cursor). ahead l (value_view now).entries) at.cursor_is ∙ at.ahead
 
-      -- If nothing is ahead, all values are recast.
       pub recast_all : (after : Cursor) → IsAdvance (value_view now).entries cursor None after → IsRecast recasts old now (Ok tt)
       recast_all after none = by at.left refl where
         by : (left : List ((ℕ × Gen) × T)) → at.left ≡ left → IsRecast recasts old now (Ok tt)
@@ -186,11 +181,9 @@ module _ {T I : Type 0} (recasts : T → T → Result (Unit {0}) I → Type 0) w
               ap₂ (λ (l : Cursor) (xs : List ((ℕ × Gen) × T)). ahead l xs) up entries_then
               ∙ entries_at_or_above-behind at.front (p, is.is) next.later 1 (subst (AscendsFrom 1) entries_then (entries_ascend (values_of new)))
 
-          -- Fewer entries are left.
           pub fewer_left : length (ahead after (value_view new).entries) < length (ahead cursor (value_view now).entries)
           fewer_left = let few = ap (λ (l : List ((ℕ × Gen) × T)). length l) left_then in let many = ap (λ (l : List ((ℕ × Gen) × T)). length l) (left_ahead ∙ next.is) in omega (arith, few, many)
 
-          -- One more value is recast.
           pub recast_next : returned ≡ Ok tt → IsRecasting old new after
           recast_next ok = record {
             were = at.were ++ is.was ∷ [];
@@ -207,7 +200,6 @@ module _ {T I : Type 0} (recasts : T → T → Result (Unit {0}) I → Type 0) w
             links = reports_then;
           }
 
-          -- One value refuses.
           pub recast_refused : (refusal : I) → returned ≡ Err refusal → IsRecast recasts old new (Err refusal)
           recast_refused refusal err = record {
             rest = rest_then;

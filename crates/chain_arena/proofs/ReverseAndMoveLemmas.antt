@@ -22,7 +22,6 @@ use Rattle.chain_linking.specs.ChainReversals.{walk_at}
 use Rattle.chain_linking.proofs.LinkWriteLemmas.{FitsLinks, FitsLinks-link_map, link_map-with_link_map, values_of-with_link_map}
 use Rattle.chain_linking.proofs.ReversalLemmas.{FitsLinks-with_turns}
 
--- An index has a link in both, or in neither.
 alike : (left right : LinkMap) (i : ℕ) → HasLink left i ↔ HasLink right i → is_some (left i) ≡ is_some (right i)
 alike left right i same = by (left i) refl (right i) refl
   where

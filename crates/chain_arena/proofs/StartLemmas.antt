@@ -16,7 +16,6 @@ pub none_of : (o : Option ℕ) → is_none o ≡ true → o ≡ None
 none_of None is = refl
 none_of (Some x) is = absurd (let h = is in cc)
 
--- Whether an interlink is missing, from the index read.
 pub missing : {I : Type 0} (number : I → ℕ) (o : Option I) (q : Option ℕ) (b : Bool) → option_map number o ≡ q → is_some o ≡ not b → is_none q ≡ b
 missing number None q true read is = ap is_none (sym read)
 missing number None q false read is = absurd (let h = is in cc)
@@ -32,7 +31,6 @@ module _ {Gen T : Type 0} where
     pub stored : slice_index_or slots k None ≡ Some (p.1, link)
     pub first : link.prev ≡ None
 
-  -- It is one slot further on, seen from the slot before.
   one_on : (i : ℕ) (o : Option (Gen × LinkView T)) (slots : List (Option (Gen × LinkView T))) (p : ℕ × Gen) → IsStartAt (suc i) slots p → IsStartAt i (o ∷ slots) p
   one_on i o slots p rest = record { k = suc rest.k; index = (let e = rest.index in omega (arith, e)); link = rest.link; stored = rest.stored; first = rest.first }
 
@@ -71,7 +69,6 @@ module _ {Gen T : Type 0} where
       by true n = inr n
       by false n = n
 
-  -- The starts are exactly the links that begin a linear chain.
   pub are_starts : (a : Arena Gen (LinkView T)) → IsWellLinked (link_map a) → AreStarts a (starts_of a)
   are_starts a agrees p = (there, back p.0 refl)
     where

@@ -34,7 +34,6 @@ use Rattle.chain_laws.specs.declared.insert_kind.InsertKind.{InsertKind}
 use Rattle.chain_arena.proofs.ChainDrainLemmas.{link_at-entry}
 use Rattle.chain_links.proofs.MappedArenaLemmas.{length-with_each}
 
--- Two lists are the same if they are with each value wrapped in `Some`.
 same_values : {T : Type 0} (xs ys : List T) → map (λ t. let o : Option T = Some t in o) xs ≡ map (λ t. let o : Option T = Some t in o) ys → xs ≡ ys
 same_values {T} [] [] is = refl
 same_values {T} [] (y ∷ ys) is = absurd (let h = is in cc)
@@ -48,7 +47,6 @@ module _ {Gen T : Type 0} where
   abbrev HasGeneration : Gen → (ℕ × Gen) × T → Type 0
   HasGeneration g e = e.0.1 ≡ g
 
-  -- Entries are determined by their indexes, their values and their one generation.
   same_entries : (g : Gen) (es fs : List ((ℕ × Gen) × T)) → map index_of es ≡ map index_of fs → values_in es ≡ values_in fs → All (HasGeneration g) es → All (HasGeneration g) fs → es ≡ fs
   same_entries g [] [] indexes values left right = refl
   same_entries g [] (f ∷ fs) indexes values left right = absurd (let h = indexes in cc)
@@ -62,12 +60,9 @@ module _ {Gen T : Type 0} where
       let one : e ≡ f = ap₂ (λ (k : ℕ × Gen) (t : T). (k, t)) key value in
       ap₂ (λ (x : (ℕ × Gen) × T) (xs : List ((ℕ × Gen) × T)). x ∷ xs) one (same_entries g es fs (cc) (cc) (All-tail (HasGeneration g) e es left) (All-tail (HasGeneration g) f fs right))
 
-  -- What is known of the slots of an arena.
   abbrev slots_known : Links Gen T → Slots
   slots_known a = record { count = length (values_of a).slots; freed = a.freed; placed = a.placed; touched = a.touched }
 
-  -- Arenas are the same but for touches if entries, interlinks and capacities are, and slots are
-  -- filled alike.
   same_known_alike : (a b : Links Gen T) (count most : ℕ) (old : Slots) → entries (values_of a) ≡ entries (values_of b) → link_map a ≡ link_map b
       → AreFilledAnew count most old (slots_known a) → AreFilledAnew count most old (slots_known b)
       → a.counter ≡ b.counter → a.capacity ≡ b.capacity → a.stack_capacity ≡ b.stack_capacity → a.maximum ≡ b.maximum → AreSameButTouched a b
@@ -96,7 +91,6 @@ module _ {Gen T : Type 0} where
   of_counter g counter es same all = subst (λ (h : Gen). All (HasGeneration h) es) same all
 
 module _ {P I Gen W T : Type 0} (pointers : PointerKind P I Gen W) (reset : Bool) (old a b : Links Gen T) (r s : InvalidationOption Unit) where
-  -- A compression is determined but for touches.
   pub compression_same : CompressStep pointers old reset r a → CompressStep pointers old reset s b → AreSameButTouched a b
   compression_same first second =
       let one = first.0.compressed in
@@ -109,7 +103,6 @@ module _ {P I Gen W T : Type 0} (pointers : PointerKind P I Gen W) (reset : Bool
       (renaming_is_determined _ (link_map old) (link_map a) (link_map b) first.2.renamed second.2.renamed) one.slots two.slots counter
       (one.capacity ∙ sym two.capacity) (first.2.stack_capacity ∙ sym second.2.stack_capacity) (one.maximum ∙ sym two.maximum)
 
-  -- A canonical compression is determined but for touches.
   pub layout_same : CompressCanonicalStep pointers old reset r a → CompressCanonicalStep pointers old reset s b → AreSameButTouched a b
   layout_same one two =
       let x = one.0.canonical in
@@ -134,7 +127,6 @@ module _ (n : ℕ) where
   untouched count most old new known =
       record { count = known.count; freed = known.freed; placed = known.placed; touches = 0; few = omega arith; touched = omega arith }
 
-  -- A view with the touches set to n.
   abbrev touch_view : {Gen T : Type 0} → ArenaView Gen T → ArenaView Gen T
   touch_view v = record v { slots = option_map (λ (s : Slots). record s { touched = n }) v.slots }
 

@@ -15,7 +15,6 @@ use Rattle.chain_arena.specs.Drains.{after_times}
 use Rattle.chain_arena.specs.Transfers.{TransferredLink, old_index, overflows}
 
 module _ {Gen : Type 0} (following : Gen → Gen) (wraps : Gen → Bool) where
-  -- The overflow of one more removal.
   pub overflows-append : (n : ℕ) (g : Gen) → overflows following wraps (n + 1) g ≡ overflows following wraps n g ++ wraps (after_times following n g) ∷ []
   overflows-append n g = ap (λ m. overflows following wraps m g) (let e : n + 1 ≡ suc n = omega arith in e) ∙ longer n g
     where
@@ -39,7 +38,6 @@ module _ {Q P G Gen U T F : Type 0} (key : Q → ℕ × G) (new_key : P → ℕ 
       none None = tt
       none (Some g) = refl
 
-  -- One more call.
   pub calls_continue : (generation : Gen) (first : F) (source : ArenaView G U) (order : List ℕ) (f : F) (transferred : List (TransferredLink Q P U T)) → AreCalled generation first source order f transferred
       → (c : TransferredLink Q P U T) (next : F) → found (old_index key c) source.entries ≡ Some ((key c.from).1, value_in c.value) → new_key c.to ≡ (length transferred + 1, generation)
       → Called call f (c.from, (c.value, (c.to, tt))) c.returned next

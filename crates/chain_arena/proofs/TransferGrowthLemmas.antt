@@ -16,7 +16,6 @@ use Rattle.chain_arena.specs.Transfers.{IsTransfer}
 
 -- A growth to capacity for n links, where the greatest index is tested before the maximum.
 module _ {Gen T : Type 0} (may_reach : ℕ → Option ℕ → ℕ → ℕ → Type 0) (greatest n : ℕ) where
-  -- The outcome of the growth, by the arenas before and after it.
   abbrev Grows : Arena Gen (LinkView T) → Arena Gen (LinkView T) → Result (Unit {0}) ReallocationError → Type 0
   Grows old new r = SucceedsOrRefuses n greatest old.maximum (ReachesCapacity may_reach greatest n old new) (new ≡ old) r
 
@@ -40,7 +39,6 @@ module _ {Gen T : Type 0} (may_reach : ℕ → Option ℕ → ℕ → ℕ → Ty
   grows_within old new (Err refused.BeyondMaxCapacity) within outcome err reached held = (within, outcome.1, err)
   grows_within old new (Err refused.AllocError) within outcome err reached held = ((λ _ over. outcome.1 over), err)
 
--- A refusal for a count is one for an equal count.
 pub refused_alike : {S K : Type 0} (greatest n m : ℕ) (maximum : Option ℕ) (why : ReallocationError) → n ≡ m → (S → K) → SucceedsOrRefuses n greatest maximum (Unit {0}) S (Err why) → SucceedsOrRefuses m greatest maximum (Unit {0}) K (Err why)
 refused_alike greatest n m maximum refused.BeyondMaxCapacity same kept outcome = (subst (λ (k : ℕ). k ≤ greatest) same outcome.0, subst (IsBeyond maximum) same outcome.1, kept outcome.2)
 refused_alike greatest n m maximum refused.AllocError same kept outcome = (subst (λ (k : ℕ). k ≤ greatest → IsBeyond maximum k → ⊥) same outcome.0, kept outcome.1)
@@ -51,7 +49,6 @@ module _ {Gen T : Type 0} (following : Gen → Gen) (generation : Gen) (old grow
   emptied : set ≡ with_counter (arena_after_clear following (with_capacity_of old grown)) generation
   emptied = is_set ∙ (ap (λ (a : Arena Gen (LinkView T)). with_counter a generation) is_clear ∙ ap (λ (a : Arena Gen (LinkView T)). with_counter (arena_after_clear following a) generation) is_grown)
 
-  -- The cleared arena has no slots, and has the capacity of the grown one.
   pub emptied_with : (greatest n m : ℕ) → n ≡ m → HasCapacityFor greatest n grown → IsEmptyWithCapacity greatest m set
   emptied_with greatest n m same held =
       let capacity : set.capacity ≡ grown.capacity = ap (λ (a : Arena Gen (LinkView T)). a.capacity) emptied in (

@@ -40,7 +40,6 @@ left_some : (left : List ℕ) (i : ℕ) → Some i ≡ first_or left None → (x
 left_some [] i e = absurd (cc)
 left_some (x ∷ xs) i e = (xs, cc)
 
--- If no chain is left, no part of one is.
 none_left : (is_cyclic : Bool) (left : List ℕ) (rest : List Chain) → with_rest is_cyclic left rest ≡ [] → (left ≡ []) × (rest ≡ [])
 none_left is_cyclic [] rest e = (refl, e)
 none_left is_cyclic (x ∷ xs) rest e = absurd (cc)
@@ -67,7 +66,6 @@ module _ {Q P G Gen I U T F : Type 0} (key : Q → ℕ × G) (new_key : P → �
     pub count : k ≡ length transferred
     pub bounds : AreEnds number ends (length taken) (k + 1)
 
-  -- No link is transferred over yet.
   pub carrying_begins : (greatest : ℕ) (cursor : Cursor) (is_cyclic : Bool) → IsWellLinked interlinks → HasLinksWithin interlinks greatest → start.slots ≡ [] → cursor ≡ Up 1
       → IsCarrying 0 source interlinks cursor None is_cyclic None first start
   carrying_begins greatest cursor is_cyclic agrees within none up =
@@ -98,7 +96,6 @@ module _ {Q P G Gen I U T F : Type 0} (key : Q → ℕ × G) (new_key : P → �
       }
 
   module _ (k : ℕ) (view_after : ArenaView G U) (links : LinkMap) (cursor : Cursor) (is_cyclic : Bool) (ends : Option (I × I)) (f : F) (now : Arena Gen (LinkView T)) (stored : StoredFound links view_after) where
-    -- The next chain begins.
     pub carries_next : IsCarrying k view_after links cursor None is_cyclic ends f now → (here : ℕ) (cyclic : Bool) (after : Cursor) → IsNextChain view_after links here cyclic after
         → IsCarrying k view_after links after (Some here) cyclic None f now
     carries_next c here cyclic after next =
@@ -125,23 +122,19 @@ module _ {Q P G Gen I U T F : Type 0} (key : Q → ℕ × G) (new_key : P → �
           bounds = refl;
         }
 
-    -- The remaining links are well linked.
     pub agrees_left : (on : Option ℕ) → IsCarrying k view_after links cursor on is_cyclic ends f now → IsWellLinked links
     agrees_left on c = agrees_from_chains links (with_rest is_cyclic c.left c.rest) c.departing.chains
 
-    -- Between two chains, no remaining entry is below the advancer's index.
     pub cursor_up : (on : Option ℕ) → on ≡ None → IsCarrying k view_after links cursor on is_cyclic ends f now → AscendsFrom 1 view_after.entries → (from : ℕ) × (cursor ≡ Up from) × AscendsFrom from view_after.entries
     cursor_up on none c ascends =
         let departing = subst (λ (l : List ℕ). IsDeparting following source view_after links cursor is_cyclic l c.rest (all_items (with_appended c.done is_cyclic c.taken))) (left_none c.left (sym none ∙ c.next)) c.departing in
         (departing.from, departing.up, ascends_up following source view_after links cursor is_cyclic c.rest (all_items (with_appended c.done is_cyclic c.taken)) stored departing ascends)
 
-    -- Some entries are left unless all links are transferred over.
     pub some_left : (on : Option ℕ) → IsCarrying k view_after links cursor on is_cyclic ends f now → k < length source.entries → view_after.entries ≢ []
     some_left on c few =
         entries_left following source view_after links cursor is_cyclic c.rest (all_items (with_appended c.done is_cyclic c.taken)) stored c.left c.departing
         (subst (λ n. n < length source.entries) (c.count ∙ (sym (length-map c.transferred (old_index key)) ∙ ap length c.called.ordered)) few)
 
-    -- The next link to take, in the current chain or in the next.
     pub carries_next_link : {J : Type 0} (index : J → ℕ) (on : Option J) (i : ℕ) (cyclic : Bool) (arranged : Option (I × I)) (after : Cursor) → IsCarrying k view_after links cursor (option_map index on) is_cyclic ends f now
         → IfSome on (λ j. (i ≡ index j) × (cyclic ≡ is_cyclic) × (after ≡ cursor)) → IfNone on (IsNextChain view_after links i cyclic after) → arranged ≡ option_and on ends
         → IsCarrying k view_after links after (Some i) cyclic arranged f now
@@ -154,7 +147,6 @@ module _ {Q P G Gen I U T F : Type 0} (key : Q → ℕ × G) (new_key : P → �
         subst (λ (e : Option (I × I)). IsCarrying k view_after links after (Some i) cyclic e f now) (sym is) (carries_next c i cyclic after begins)
 
     module _ (i : ℕ) (c : IsCarrying k view_after links cursor (Some i) is_cyclic ends f now) where
-      -- The link to take exists.
       abbrev xs : List ℕ
       xs = (left_some c.left i c.next).0
 
@@ -167,7 +159,6 @@ module _ {Q P G Gen I U T F : Type 0} (key : Q → ℕ × G) (new_key : P → �
       pub link_stored : is_some (found i view_after.entries) ≡ true
       link_stored = first_found following source view_after links cursor is_cyclic c.rest (all_items (with_appended c.done is_cyclic c.taken)) stored i xs departing
 
-      -- No link transferred over had its index.
       apart : IsMember (all_items (with_appended c.done is_cyclic c.taken)) i → ⊥
       apart h =
           let all : all_items c.chains ≡ all_items c.done ++ ((c.taken ++ i ∷ xs) ++ all_items c.rest) =
@@ -178,7 +169,6 @@ module _ {Q P G Gen I U T F : Type 0} (key : Q → ℕ × G) (new_key : P → �
           ∙ (sym (append_assoc (all_items c.done) c.taken (i ∷ xs ++ all_items c.rest)) ∙ ap (λ (zs : List ℕ). zs ++ (i ∷ xs ++ all_items c.rest)) (sym (items_arranged c.done is_cyclic c.taken))) in
           AreDistinct-apart (all_items (with_appended c.done is_cyclic c.taken)) (i ∷ xs ++ all_items c.rest) i (subst AreDistinct (all ∙ before) c.are.partition.once) h (inl refl)
 
-      -- Its entry is as it was in the source.
       pub as_before : found i view_after.entries ≡ found i source.entries
       as_before = ap (λ (s : ArenaView G U). found i s.entries) c.departing.same ∙ found-entries_removed following source (all_items (with_appended c.done is_cyclic c.taken)) i apart
 
@@ -193,7 +183,6 @@ module _ {Q P G Gen I U T F : Type 0} (key : Q → ℕ × G) (new_key : P → �
       values_long : length (entered c.transferred) ≡ length (all_items c.done) + length c.taken
       values_long = length-map c.transferred (λ (d : TransferredLink Q P U T). (new_key d.to, d.returned)) ∙ (sym long ∙ arranged-length c.done is_cyclic c.taken)
 
-      -- The number of links transferred over.
       counted_next : length (entered c.transferred) ≡ k
       counted_next = length-map c.transferred (λ (d : TransferredLink Q P U T). (new_key d.to, d.returned)) ∙ sym c.count
 
@@ -205,7 +194,6 @@ module _ {Q P G Gen I U T F : Type 0} (key : Q → ℕ × G) (new_key : P → �
       parts_more : c.chains ≡ c.done ++ with_rest is_cyclic ((c.taken ++ i ∷ []) ++ xs) c.rest
       parts_more = c.parts ∙ ap (λ (l : List ℕ). c.done ++ with_rest is_cyclic l c.rest) (ap (λ (l : List ℕ). c.taken ++ l) is_left ∙ sym (append_assoc c.taken (i ∷ []) xs))
 
-      -- The index of the next link.
       pub next_index_at : start.freed ≡ [] → next_index now ≡ k + 1
       next_index_at unfreed = next_behind start now c.done is_cyclic c.taken (entered c.transferred) c.landed unfreed ∙ ap (λ n. n + 1) counted_next
 
@@ -216,7 +204,6 @@ module _ {Q P G Gen I U T F : Type 0} (key : Q → ℕ × G) (new_key : P → �
       position_at unfreed u v before after =
           subst₂ (IsInsertPosition (link_map now) (next_index now)) (sym before) (sym after) (position_at_end start now c.done is_cyclic c.taken (entered c.transferred) c.landed unfreed values_long)
 
-      -- The target has capacity for it.
       pub capacity_at : start.freed ≡ [] → (within_capacity : ℕ) → k < within_capacity → within_capacity ≤ start.capacity → entry_count now < now.capacity
       capacity_at unfreed within_capacity few fits =
           let have : entry_count now ≡ length (entered c.transferred) = count_landed start now c.done is_cyclic c.taken (entered c.transferred) c.landed unfreed in
@@ -253,7 +240,6 @@ module _ {Q P G Gen I U T F : Type 0} (key : Q → ℕ × G) (new_key : P → �
             (subst (λ (a : Arena Gen (LinkView T)). IsLanded start a (with_appended c.done is_cyclic (c.taken ++ i ∷ [])) (entered c.transferred ++ ((length (entered c.transferred) + 1, start.counter), t) ∷ [])) (sym is)
             (landing_continues start now c.done is_cyclic c.taken (entered c.transferred) c.landed unfreed values_long t listed i))
 
-        -- The link is transferred over.
         pub carries_link : IsWellLinked links → (after : ArenaView G U) (links_after : LinkMap) (on : Option ℕ) (bounds : Option (I × I)) (then_now : Arena Gen (LinkView T))
             → IfSome view_after.counter (λ g. is_overflow value ≡ wraps g) → on ≡ step_forward i (next_of links i) → after ≡ view_after_removal following view_after i → links_after ≡ with_removal links i
             → then_now ≡ insert_between now t (end_before is_cyclic (length c.taken) (next_index now)) (end_after is_cyclic (length c.taken) (next_index now))
@@ -278,12 +264,10 @@ module _ {Q P G Gen I U T F : Type 0} (key : Q → ℕ × G) (new_key : P → �
               bounds = subst (λ m. AreEnds number bounds m (k + 1 + 1)) (sym (length-append c.taken (i ∷ []))) ends_are;
             }
 
-    -- The next link of the current chain exists.
     pub stored_on : {J : Type 0} (index : J → ℕ) (on : Option J) → IsCarrying k view_after links cursor (option_map index on) is_cyclic ends f now → IfSome on (λ j. is_some (found (index j) view_after.entries) ≡ true)
     stored_on index None c = tt
     stored_on index (Some j) c = link_stored (index j) c
 
-    -- All links are transferred over.
     pub carries_all : (on : Option ℕ) → IsCarrying k view_after links cursor on is_cyclic ends f now → start.freed ≡ [] → k ≡ length source.entries
         → IsTransfer key new_key following wraps call start.counter first source interlinks view_after start now
     carries_all on c unfreed all =

@@ -22,12 +22,10 @@ use Rattle.chain_arena.specs.Drains.{after_times}
 use Rattle.chain_arena.specs.Transfers.{entries_removed}
 use Rattle.chain_traits.specs.DrainOrder.{IsNextChain}
 
--- The chains after the first are in order too.
 tail_in_order : (c : Chain) (rest : List Chain) → IsInOrder (c ∷ rest) → IsInOrder rest
 tail_in_order c rest order = record { written = λ d h. order.written d (inr h); ascends = order.ascends.1 }
 
 module _ {Gen T : Type 0} where
-  -- Entries that are found only from an index on ascend from there.
   ascends_from : (from low : ℕ) (es : List ((ℕ × Gen) × T)) → AscendsFrom low es → ((j : ℕ) → is_some (found j es) ≡ true → from ≤ j) → AscendsFrom from es
   ascends_from from low [] ascends found_low = tt
   ascends_from from low (e ∷ es) ascends found_low = (found_low e.0.0 (ap is_some (if_same e.0.0 e.0.0 (Some (e.0.1, e.1)) (found e.0.0 es) refl)), ascends.1)
@@ -50,7 +48,6 @@ module _ {Gen T : Type 0} (following : Gen → Gen) where
   entries_removed-append s [] i = refl
   entries_removed-append s (x ∷ xs) i = entries_removed-append (view_after_removal following s x) xs i
 
-  -- Each removal increments the counter.
   pub counter-entries_removed : (s : ArenaView Gen T) (xs : List ℕ) → (entries_removed following s xs).counter ≡ option_map (after_times following (length xs)) s.counter
   counter-entries_removed s [] = own s.counter
     where
@@ -63,7 +60,6 @@ module _ {Gen T : Type 0} (following : Gen → Gen) where
       once None = refl
       once (Some g) = refl
 
-  -- Entries that were not removed are found as before.
   pub found-entries_removed : (s : ArenaView Gen T) (xs : List ℕ) (i : ℕ) → (IsMember xs i → ⊥) → found i (entries_removed following s xs).entries ≡ found i s.entries
   found-entries_removed s [] i none = refl
   found-entries_removed s (x ∷ xs) i none =
@@ -81,7 +77,6 @@ module _ {Gen T : Type 0} (following : Gen → Gen) where
     pub low : (j : ℕ) → HasLink links j → (from ≤ j) ⊎ IsMember left j
 
   module _ (source view_after : ArenaView Gen T) (links : LinkMap) (cursor : Cursor) (is_cyclic : Bool) (rest : List Chain) (taken : List ℕ) (stored : StoredFound links view_after) where
-    -- If no chain is left in part, the entries ascend from the advancer's index.
     pub ascends_up : (d : IsDeparting source view_after links cursor is_cyclic [] rest taken) → AscendsFrom 1 view_after.entries → AscendsFrom d.from view_after.entries
     ascends_up d ascends = ascends_from d.from 1 view_after.entries ascends (λ j there. above (d.low j (found_valid links view_after stored j there)))
       where
@@ -89,11 +84,9 @@ module _ {Gen T : Type 0} (following : Gen → Gen) where
         above (inl le) = le
         above (inr h) = absurd h
 
-    -- Some entries are left unless all were taken.
     pub entries_left : (left : List ℕ) → IsDeparting source view_after links cursor is_cyclic left rest taken → length taken < length source.entries → view_after.entries ≢ []
     entries_left left d few none = let long : length view_after.entries ≡ 0 = ap length none in omega (arith, d.size, long)
 
-    -- The next chain is the first of those left.
     pub departs_next : IsDeparting source view_after links cursor is_cyclic [] rest taken → (here : ℕ) (cyclic : Bool) (after : Cursor) → IsNextChain view_after links here cyclic after
         → (xs : List ℕ) × (others : List Chain) × (rest ≡ chain_of cyclic (here ∷ xs) ∷ others) × IsDeparting source view_after links after cyclic (here ∷ xs) others taken
     departs_next d here cyclic after next =
@@ -119,11 +112,9 @@ module _ {Gen T : Type 0} (following : Gen → Gen) where
         above j le left has (no ne) = inl (omega arith)
 
     module _ (i : ℕ) (xs : List ℕ) (d : IsDeparting source view_after links cursor is_cyclic (i ∷ xs) rest taken) where
-      -- The first link of the chain exists.
       pub first_found : is_some (found i view_after.entries) ≡ true
       first_found = valid_found links view_after stored i (chain_valid links (chain_of is_cyclic (i ∷ xs)) i (d.chains.each (chain_of is_cyclic (i ∷ xs)) (inl refl)) (subst (λ (zs : List ℕ). IsMember zs i) (sym (items_of is_cyclic (i ∷ xs))) (inl refl)))
 
-      -- After it is taken, the rest of the chain is left.
       pub departs_on : IsWellLinked links → (after : ArenaView Gen T) (links_after : LinkMap) → after ≡ view_after_removal following view_after i → links_after ≡ with_removal links i
           → IsDeparting source after links_after cursor is_cyclic xs rest (taken ++ i ∷ []) × (step_forward i (next_of links i) ≡ first_or xs None)
       departs_on agrees after links_after is passed =
@@ -145,7 +136,6 @@ module _ {Gen T : Type 0} (following : Gen → Gen) where
           stays j ne (inr (inl same)) = absurd (ne (sym same))
           stays j ne (inr (inr h)) = inr h
 
-    -- After all were taken, none is left.
     pub all_departed : (left : List ℕ) → IsDeparting source view_after links cursor is_cyclic left rest taken → length taken ≡ length source.entries
         → (view_after.entries ≡ []) × (with_rest is_cyclic left rest ≡ [])
     all_departed left d all = (gone, nothing (with_rest is_cyclic left rest) d.chains)

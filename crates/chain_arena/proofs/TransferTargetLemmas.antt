@@ -16,7 +16,6 @@ use Rattle.chain_links.proofs.ArenaInsertionLemmas.{values-count}
 use Rattle.chain_arena.proofs.InsertionEffectLemmas.{link_map-insert_between, values_of-insert_between}
 
 module _ {Gen T : Type 0} where
-  -- The entries with one more at the end.
   entries_from-append : (i : ℕ) (slots : List (Option (Gen × T))) (e : Gen × T) → entries_from i (slots ++ Some e ∷ []) ≡ entries_from i slots ++ ((i + length slots, e.0), e.1) ∷ []
   entries_from-append i [] e = ap (λ n. let es : List ((ℕ × Gen) × T) = ((n, e.0), e.1) ∷ [] in es) (omega arith)
   entries_from-append i (None ∷ slots) e = entries_from-append (suc i) slots e ∙ ap (λ n. entries_from (suc i) slots ++ ((n, e.0), e.1) ∷ []) (omega arith)
@@ -32,7 +31,6 @@ module _ {Gen T : Type 0} where
     pub slots : length now.slots ≡ length values
     pub state : now ≡ record start { slots = now.slots; placed = start.placed + length values }
 
-  -- An arena without slots, to which no link was transferred yet.
   pub landing_begins : (start : Arena Gen (LinkView T)) → start.slots ≡ [] → IsLanded start start [] []
   landing_begins start none = record {
     chains = record {
@@ -58,11 +56,9 @@ module _ {Gen T : Type 0} where
     pub now_unfreed : now.freed ≡ []
     now_unfreed = ap (λ (a : Arena Gen (LinkView T)). a.freed) landed.state ∙ unfreed
 
-    -- The index of the next link.
     pub next_behind : next_index now ≡ length values + 1
     next_behind = ap₂ first_or_next now_unfreed landed.slots
 
-    -- There are as many links as were transferred over.
     pub count_landed : entry_count now ≡ length values
     count_landed = sym (values-count now) ∙ ap length landed.entered
 
@@ -70,7 +66,6 @@ module _ {Gen T : Type 0} where
       at_end : next_index now ≡ length (all_items done) + length xs + 1
       at_end = next_behind ∙ ap (λ n. n + 1) long
 
-      -- There is an insertion position after the last link.
       pub position_at_end : IsInsertPosition (link_map now) (next_index now) (end_before is_cyclic (length xs) (next_index now)) (end_after is_cyclic (length xs) (next_index now))
       position_at_end = (last_is_appended (link_map now) done is_cyclic xs 0 (next_index now) landed.chains at_end).1
 
@@ -104,7 +99,6 @@ module _ {Gen T : Type 0} where
             ∙ ap (λ n. made there.slots start.freed n)
             (let e : now.placed + 1 ≡ start.placed + length (values ++ ((length values + 1, start.counter), t) ∷ []) = omega (arith, ap (λ (a : Arena Gen (LinkView T)). a.placed) landed.state, length-append values (((length values + 1, start.counter), t) ∷ [])) in e))
 
-        -- A link is inserted after the last one.
         pub landing_continues : (x : ℕ) → IsLanded start there (with_appended done is_cyclic (xs ++ x ∷ [])) (values ++ ((length values + 1, start.counter), t) ∷ [])
         landing_continues x = record {
           chains = subst (λ (m : LinkMap). AreChains m (in_runs 1 (with_appended done is_cyclic (xs ++ x ∷ [])))) (sym reported_there) (last_is_appended (link_map now) done is_cyclic xs x (next_index now) landed.chains at_end).2;

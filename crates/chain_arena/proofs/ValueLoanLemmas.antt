@@ -11,7 +11,6 @@ use Rattle.chain_linking.proofs.ConnectionLemmas.{value_at}
 use Rattle.chain_links.proofs.MappedArenaLemmas.{IsValidPtr}
 
 module _ {Gen K T : Type 0} (number : K → Option ℕ) where
-  -- The value at an index is the value of the link there.
   pub value_there : (a : Arena Gen (RawLink K T)) (n : ℕ) → option_map (λ (e : Gen × T). e.1) (entry_at (values_of (links_view number a)) n) ≡ option_map held_in (option_map (λ (e : Gen × RawLink K T). e.1) (entry_at a n))
   value_there a n = ap (option_map (λ (e : Gen × T). e.1)) (value_at number a n) ∙ by (entry_at a n) where
     by : (o : Option (Gen × RawLink K T)) → option_map (λ (e : Gen × T). e.1) (option_map (on_value held_in) o) ≡ option_map held_in (option_map (λ (e : Gen × RawLink K T). e.1) o)
@@ -23,7 +22,6 @@ module _ {Gen X : Type 0} where
   generation_or other None = other
   generation_or other (Some e) = e.0
 
-  -- Each pointer is valid or not.
   pub valid_or_not : (eq : Gen → Gen → Bool) → ((g h : Gen) → (eq g h ≡ true) ↔ (g ≡ h)) → (a : Arena Gen X) (p : ℕ × Gen) → IsValidPtr a p ⊎ (IsValidPtr a p → ⊥)
   valid_or_not eq law a p = by (entry_at a p.0) refl where
     same : (e : Gen × X) (b : Bool) → entry_at a p.0 ≡ Some e → eq e.0 p.1 ≡ b → IsValidPtr a p ⊎ (IsValidPtr a p → ⊥)
@@ -34,7 +32,6 @@ module _ {Gen X : Type 0} where
     by None at = inr (λ valid. let h = sym at ∙ valid.stored in absurd (cc))
     by (Some e) at = same e (eq e.0 p.1) at refl
 
-  -- A borrow at the index of a valid pointer is of its value.
   pub lent_some : (entry : ℕ → Option (Gen × X)) (n : ℕ) (p : ℕ × Gen) (r : Option (MutBor X)) → n ≡ p.0 → IsValid entry p → option_copied_mut r ≡ option_map (λ (e : Gen × X). e.1) (entry n) → IsSome r
   lent_some entry n p None at valid known = let h = known ∙ ap (option_map (λ (e : Gen × X). e.1)) (ap entry at ∙ valid.stored) in absurd (cc)
   lent_some entry n p (Some t) at valid known = refl

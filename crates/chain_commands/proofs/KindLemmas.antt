@@ -9,12 +9,10 @@ mapped f None r is = is
 mapped f (Some x) None is = absurd is
 mapped f (Some x) (Some k) is = ap Some is
 
--- A word that is a pointer is not read as an index.
 pub not_read : {P I : Type 0} {p : Option P} {b : Bool} {i index : Option I} → b ≡ is_some p → (b ≡ true) ⊎ (i ≡ index) → p ≡ None → i ≡ index
 not_read is (inl holds) none = absurd (let e = sym holds ∙ is ∙ ap is_some none in cc)
 not_read is (inr read) none = read
 
--- A kind by pointers, or else by indexes.
 pub by_either-mapped : {P I : Type 0} (by_pointers : P → Kind) (by_indexes : I → Kind) (k l : Option Kind) {pointers pointers_got : Option P} {indexes indexes_got : Option I}
     → pointers_got ≡ pointers → (pointers_got ≡ None → indexes_got ≡ indexes)
     → MatchOption pointers_got (k ≡ None) (λ p. IsSomeAnd k (λ m. m ≡ by_pointers p)) → MatchOption indexes_got (l ≡ None) (λ i. IsSomeAnd l (λ m. m ≡ by_indexes i))

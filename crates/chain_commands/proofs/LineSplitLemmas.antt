@@ -16,7 +16,6 @@ use Rattle.chain_commands.specs.Words.{lines_of, whole_lines, all_but_last, word
 use Rattle.chain_commands.specs.Commands.{line_of, line_of_words}
 use Rattle.chain_commands.specs.declared.command.Line.TheVariants as lines
 
--- Keeping at most `n` bytes of a line, piece by piece, keeps its first `n` bytes.
 pub kept_more : (n m : ℕ) (kept rest more : List ℕ) → kept ≡ take n rest → m ≡ min (length more) (n - length kept) → kept ++ take m more ≡ take n (rest ++ more)
 kept_more n m kept rest more is suffices = by_length (leb n (length rest)) refl
   where
@@ -41,7 +40,6 @@ kept_more n m kept rest more is suffices = by_length (leb n (length rest)) refl
             take_all m more (omega (arith, within, is_min)) ∙ sym (take_all (n - length rest) more within)
         by_capacity false beyond is_min = ap (λ k. take k more) (omega (arith, leb-false (length more) (n - length rest) beyond, is_min))
 
--- The first 201 bytes of a line determine how it is parsed.
 pub line_of-take : (rest : List ℕ) → line_of (take 201 rest) ≡ line_of rest
 line_of-take rest = by_length (nat_lt 201 (length rest)) refl
   where
@@ -57,8 +55,6 @@ line_of-take rest = by_length (nat_lt 201 (length rest)) refl
     by_length : (b : Bool) → nat_lt 201 (length rest) ≡ b → line_of (take 201 rest) ≡ line_of rest
     by_length true e = let long = longer e in bad (take 201 rest) (rw length-take (omega arith)) ∙ sym (bad rest (omega arith))
     by_length false e = ap line_of (take_all 201 rest (shorter e))
-
--- ---- lines
 
 abbrev some_line : List (List ℕ) → Type 0
 some_line [] = ⊥
@@ -77,7 +73,6 @@ onto_first-append : (c : ℕ) (pieces others : List (List ℕ)) → some_line pi
 onto_first-append c [] others some = absurd some
 onto_first-append c (piece ∷ pieces) others some = refl
 
--- A line feed ends a line.
 pub lines_of-end : (text more : List ℕ) → lines_of (text ++ 10 ∷ more) ≡ lines_of text ++ lines_of more
 lines_of-end [] more = refl
 lines_of-end (c ∷ text) more = by_test (c == 10) (lines_of-end text more)
@@ -101,7 +96,6 @@ onto_first-last c d [] some = absurd some
 onto_first-last c d (piece ∷ []) some = refl
 onto_first-last c d (piece ∷ next ∷ pieces) some = refl
 
--- A byte other than a line feed continues the last line.
 lines_of-on : (text : List ℕ) (c : ℕ) → (c == 10) ≡ false → lines_of (text ++ c ∷ []) ≡ onto_last c (lines_of text)
 lines_of-on [] c other = ap (λ b. cond b ([] ∷ [] ∷ []) ((c ∷ []) ∷ [])) other
 lines_of-on (d ∷ text) c other = by_test (d == 10) (lines_of-on text c other)
@@ -119,7 +113,6 @@ onto_last-append c (line ∷ next ∷ lines) rest = ap (λ l. line ∷ l) (onto_
 pub cut-on : (text : List ℕ) (c : ℕ) (lines : List (List ℕ)) (rest : List ℕ) → (c == 10) ≡ false → lines_of text ≡ lines ++ rest ∷ [] → lines_of (text ++ c ∷ []) ≡ lines ++ (rest ++ c ∷ []) ∷ []
 cut-on text c lines rest other cut = lines_of-on text c other ∙ ap (onto_last c) cut ∙ onto_last-append c lines rest
 
--- Bytes without a line feed continue the last line.
 pub cut-more : (more text : List ℕ) (lines : List (List ℕ)) (rest : List ℕ) → All (IsNot 10) more → lines_of text ≡ lines ++ rest ∷ [] → lines_of (text ++ more) ≡ lines ++ (rest ++ more) ∷ []
 cut-more [] text lines rest all cut = ap lines_of (append-nil text) ∙ cut ∙ ap (λ r. lines ++ r ∷ []) (sym (append-nil rest))
 cut-more (c ∷ more) text lines rest all cut =
@@ -127,14 +120,10 @@ cut-more (c ∷ more) text lines rest all cut =
     ∙ cut-more more (text ++ c ∷ []) lines (rest ++ c ∷ []) (All-tail (IsNot 10) c more all) (cut-on text c lines rest (All-head (IsNot 10) c more all) cut)
     ∙ ap (λ r. lines ++ r ∷ []) (append_assoc rest (c ∷ []) more)
 
--- ---- the first such byte
-
 module _ (b : ℕ) where
-  -- The position of the first such byte.
   abbrev end_of : List ℕ → ℕ
   end_of text = position_or_len (λ c. c == b) text
 
-  -- A text split before the first such byte, if there is one.
   abbrev AreParts : List ℕ → List ℕ → List ℕ → Type 0
   AreParts front [] text = All (IsNot b) text
   AreParts front (c ∷ back) text = EndsFirst b front text back
@@ -170,27 +159,23 @@ module _ (b : ℕ) where
     pub parts-none : rest ≡ [] → All (IsNot b) text
     parts-none is = subst (λ r. AreParts front r text) is parts_are
 
--- The whole lines are those before the rest.
 pub all_but_last-append : (lines : List (List ℕ)) (rest : List ℕ) → all_but_last (lines ++ rest ∷ []) ≡ lines
 all_but_last-append [] rest = refl
 all_but_last-append (line ∷ []) rest = refl
 all_but_last-append (line ∷ next ∷ lines) rest = ap (λ l. line ∷ l) (all_but_last-append (next ∷ lines) rest)
 
--- Lines followed by others are whole.
 all_but_last-before : (lines others : List (List ℕ)) → some_line others → all_but_last (lines ++ others) ≡ lines ++ all_but_last others
 all_but_last-before [] others some = refl
 all_but_last-before (line ∷ []) [] some = absurd some
 all_but_last-before (line ∷ []) (other ∷ others) some = refl
 all_but_last-before (line ∷ next ∷ lines) others some = ap (λ l. line ∷ l) (all_but_last-before (next ∷ lines) others some)
 
--- A line ended by a line feed is whole, like those before it.
 pub whole_lines-end : (text more : List ℕ) (lines : List (List ℕ)) (rest : List ℕ) → lines_of text ≡ lines ++ rest ∷ []
     → whole_lines (text ++ 10 ∷ more) ≡ lines ++ rest ∷ whole_lines more
 whole_lines-end text more lines rest cut =
     ap all_but_last (lines_of-end text more ∙ ap (λ l. l ++ lines_of more) cut)
     ∙ all_but_last-before (lines ++ rest ∷ []) (lines_of more) (lines_of-some more) ∙ append_assoc lines (rest ∷ []) (whole_lines more)
 
--- More input keeps the ended lines.
 lines_of-more : (more text : List ℕ) (lines : List (List ℕ)) (rest : List ℕ) → lines_of text ≡ lines ++ rest ∷ []
     → (next : List ℕ) × (others : List (List ℕ)) × (lines_of (text ++ more) ≡ lines ++ next ∷ others)
 lines_of-more [] text lines rest cut = (rest, [], ap lines_of (append-nil text) ∙ cut)
@@ -211,15 +196,11 @@ lines_of-more (c ∷ more) text lines rest cut = by_test (c == 10) refl (λ line
         let found = on lines (rest ++ c ∷ []) (cut-on text c lines rest e cut) in
         (found.0, found.1, ap lines_of (sym (append_assoc text (c ∷ []) more)) ∙ found.2)
 
--- More input keeps the whole lines.
 pub whole_lines-more : (more text : List ℕ) (lines : List (List ℕ)) (rest : List ℕ) → lines_of text ≡ lines ++ rest ∷ [] → (others : List (List ℕ)) × (whole_lines (text ++ more) ≡ lines ++ others)
 whole_lines-more more text lines rest cut =
     let found = lines_of-more more text lines rest cut in
     (all_but_last (found.0 ∷ found.1), ap all_but_last found.2 ∙ all_but_last-before lines (found.0 ∷ found.1) tt)
 
--- ---- the words of a line
-
--- The byte at n, the last of a line, is a carriage return.
 return_at : (n : ℕ) (line : List ℕ) → length line ≡ suc n → pointwise eqb (drop n line) (13 ∷ []) ≡ (slice_index line n == 13)
 return_at zero (c ∷ []) long = and-true (c == 13)
 return_at zero (c ∷ d ∷ line) long = absurd (omega (arith, long))
@@ -227,19 +208,16 @@ return_at (suc n) (c ∷ line) long = return_at n line (omega (arith, long))
 return_at zero [] long = absurd (omega (arith, long))
 return_at (suc n) [] long = absurd (omega (arith, long))
 
--- A line ends with a carriage return if that is its last byte.
 ends_with_return : (line : List ℕ) → pointwise eqb (drop (length line - 1) line) (13 ∷ []) ≡ (slice_index line (length line - 1) == 13)
 ends_with_return [] = refl
 ends_with_return (c ∷ line) =
     let last : length (c ∷ line) - 1 ≡ length line = omega arith in
     subst (λ n. pointwise eqb (drop n (c ∷ line)) (13 ∷ []) ≡ (slice_index (c ∷ line) n == 13)) (sym last) (return_at (length line) (c ∷ line) refl)
 
--- The words of a line that is not too long.
 pub line_of-words : (line text : List ℕ) (words : List (List ℕ)) → length line ≤ 200 → text ≡ without_return line → words_of text ≡ words → line_of line ≡ line_of_words words
 line_of-words line text words short is same =
     ap (λ b. cond b lines.Bad (line_of_words (words_of (without_return line)))) (le-ltb 200 (length line) short) ∙ ap (λ t. line_of_words (words_of t)) (sym is) ∙ ap line_of_words same
 
--- What is left of a line without the carriage return at its end.
 pub return_stripped : (line : Bor (List ℕ)) (r : Option (Bor (List ℕ))) (text : Bor (List ℕ))
     → MatchOption r (pointwise eqb (drop (length line.now - 1) line.now) (13 ∷ []) ≡ false) (λ x. (pointwise eqb (drop (length line.now - 1) line.now) (13 ∷ []) ≡ true) × (x.now ≡ take (length line.now - 1) line.now) × (length x.now + 1 ≡ length line.now))
     → text ≡ unwrap_or r line → text.now ≡ without_return line.now

@@ -33,7 +33,6 @@ overflow_capacity : (known : InvalidationOption Unit) → length (overflow_text 
 overflow_capacity (option.Success done) = omega arith
 overflow_capacity (option.GenerationOverflow done) = omega arith
 
--- The capacity reserved suffices for so many moves and a line feed.
 pub moves_capacity : (links : ℕ) (moves : List (ToolPtr × ToolPtr)) (known : InvalidationOption Unit) → links ≤ greatest_index → length moves ≡ links
     → length (moves_text moves known) < links * 44 + 26
 moves_capacity links moves known most as_many =

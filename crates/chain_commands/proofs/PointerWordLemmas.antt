@@ -25,7 +25,6 @@ module _ {A : Type 0} (make : (n : ℕ) → IsWithin 0xffff_ffff n → A) where
   made_if-none n absent true false at_least at_most = refl
   made_if-none n absent false high at_least at_most = refl
 
--- The result of checking a number is the index with this number.
 pub index_named-new : (n : ℕ) (r : Option Inx32) → n < 2 ^ 32 → IsSome r ↔ (1 ≤ n) → IfSome r (λ i. number_of_inx32 i ≡ n) → r ≡ index_named n
 unfolding index_named
 index_named-new n (Some i) fits variant value =
@@ -44,7 +43,6 @@ index_named-chain o n r e fits variant value = index_named-new n r fits variant 
 pub generation_of-chain : (o : Option ℕ) (n : ℕ) (r : Option Gen32) → o ≡ Some n → n < 2 ^ 32 → IsSome r ↔ (1 ≤ n) → IfSome r (λ g. number_of_gen32 g ≡ n) → r ≡ option_and_then generation_of o
 generation_of-chain o n r e fits variant value = generation_of-new n r fits variant value ∙ ap (option_and_then generation_of) (sym e)
 
--- The parts of a text before and after its first byte `b`.
 split_is : (b : ℕ) (front back : List ℕ) → All (IsNot b) front
     → (before_first (λ c. c == b) (front ++ b ∷ back) ≡ front) × (after_first (λ c. c == b) (front ++ b ∷ back) ≡ back)
 split_is b [] back all =
@@ -60,7 +58,6 @@ split_is b (c ∷ front) back all =
       ap (λ k. drop (k + 1) (c ∷ front ++ b ∷ back)) at ∙ ap (λ k. drop k (c ∷ front ++ b ∷ back)) more ∙ rest.1,
     )
 
--- Nothing comes after a byte that a text does not have.
 none_after : (b : ℕ) (text : List ℕ) → All (IsNot b) text → after_first (λ c. c == b) text ≡ []
 none_after b [] all = refl
 none_after b (c ∷ text) all =
@@ -69,12 +66,10 @@ none_after b (c ∷ text) all =
     let more : suc n + 1 ≡ suc (n + 1) = omega arith in
     ap (λ k. drop (k + 1) (c ∷ text)) at ∙ ap (λ k. drop k (c ∷ text)) more ∙ none_after b text (All-tail (IsNot b) c text all)
 
--- There is no pointer without the second part.
 pointer_with-none : (index : Option Inx32) (generation : Option Gen32) → None ≡ generation → None ≡ pointer_with index generation
 pointer_with-none None generation e = refl
 pointer_with-none (Some index) generation e = ap (pointer_with (Some index)) e
 
--- There is no pointer without a dot.
 pub pointer_of-no_dot : (word : List ℕ) → All (IsNot 46) word → None ≡ pointer_of word
 pointer_of-no_dot word all = pointer_with-none _ _ (sym (ap generation_word (none_after 46 word all)))
 
@@ -84,15 +79,12 @@ module _ (word front back : List ℕ) (ends : EndsFirst 46 front word back) wher
       let is = split_is 46 front back ends.first in
       ap pointer_of ends.parts ∙ (λ t. pointer_with (index_word (is.0 t)) (generation_word (is.1 t)))
 
-  -- There is no pointer without an index.
   pub pointer_of-no_index : None ≡ index_word front → None ≡ pointer_of word
   pointer_of-no_index e = ap (λ i. pointer_with i (generation_word back)) e ∙ sym parts
 
-  -- There is no pointer without a generation.
   pub pointer_of-no_generation : None ≡ generation_word back → None ≡ pointer_of word
   pointer_of-no_generation e = pointer_with-none _ _ e ∙ sym parts
 
-  -- A pointer with both parts.
   pub pointer_of-some : (p : ToolPtr) (i : Inx32) (g : Gen32) → key_of p ≡ (number_of_inx32 i, g) → Some i ≡ index_word front → Some g ≡ generation_word back → Some p ≡ pointer_of word
   pointer_of-some p i g key is_index is_generation =
       ap Some (same_tool_ptr p (record { inx = i; generation = g }) key) ∙ (λ k. pointer_with (is_index k) (is_generation k)) ∙ sym parts

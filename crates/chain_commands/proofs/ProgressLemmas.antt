@@ -14,7 +14,6 @@ use Rattle.chain_commands.specs.Transcripts.{Transcribes, IsCutShort, within, Tr
 use Rattle.chain_commands.specs.Progress.{WritesText, TranscribesOne, Progress, HasProgressed}
 use Rattle.chain_commands.proofs.LineSplitLemmas.{line_of-take, lines_of-end, whole_lines-end, whole_lines-more, cut-more}
 
--- One more line is executed.
 pub Transcribes-more : (old mid new : ToolArenas) (lines : List (List ℕ)) (line text more : List ℕ) → Transcribes old lines text mid → RespondsToLine mid (line_of line) more new
     → Transcribes old (lines ++ line ∷ []) (text ++ more) new
 Transcribes-more old mid new [] line text more responses next =
@@ -29,11 +28,9 @@ Transcribes-more old mid new (first ∷ lines) line text more responses next = (
   ap (λ t. t ++ more) responses.5 ∙ append_assoc responses.1 responses.2 more,
 )
 
--- A response to the kept part of a line is a response to the line.
 pub kept_line_responds : (old new : ToolArenas) (kept rest text : List ℕ) → kept ≡ take 201 rest → RespondsToLine old (line_of kept) text new → RespondsToLine old (line_of rest) text new
 kept_line_responds old new kept rest text keeps responses = subst (λ l. RespondsToLine old l text new) (ap line_of keeps ∙ line_of-take rest) responses
 
--- The kept part of a line has the effect of the line.
 pub kept_line_steps : (old new : ToolArenas) (kept rest : List ℕ) → kept ≡ take 201 rest → LeavesStep old (line_of kept) new → LeavesStep old (line_of rest) new
 kept_line_steps old new kept rest keeps step = subst (λ l. LeavesStep old l new) (ap line_of keeps ∙ line_of-take rest) step
 
@@ -71,14 +68,12 @@ module _ (old mid new : ToolArenas) (read kept : List ℕ) (held held_mid held_a
   HasProgressed-stopped A B errors.Memory more kept_after stopped =
       (so_far.text, subst (λ l. TranscribesSome old new l so_far.text) (sym (whole more)) (left_unchanged more stopped.1), Appends-kept held held_mid held_after _ so_far.writes stopped.0)
 
--- A run stops between two lines.
 pub Progress-stopped : (old new : ToolArenas) (read kept more : List ℕ) (held held_after : Option (List ℕ)) (so_far : Progress old read new kept held held_after)
     → TranscribesSome old new (whole_lines (read ++ more)) so_far.text
 Progress-stopped old new read kept more held held_after so_far =
     let found = whole_lines-more more read so_far.lines so_far.rest so_far.cut in
     subst (λ l. TranscribesSome old new l so_far.text) (sym found.1) (before so_far.lines found.0 so_far.text so_far.responses)
 
--- More of a line is read, and enough of it is kept.
 pub Progress-front : (old new : ToolArenas) (read kept kept_after front : List ℕ) (held held_after : Option (List ℕ)) (so_far : Progress old read new kept held held_after) → All (IsNot 10) front
     → kept_after ≡ take 201 (so_far.rest ++ front) → Progress old (read ++ front) new kept_after held held_after
 Progress-front old new read kept kept_after front held held_after so_far all keep = record {
@@ -91,9 +86,6 @@ Progress-front old new read kept kept_after front held held_after so_far all kee
   writes = so_far.writes;
 }
 
--- ---- a piece, line by line
-
--- A line is executed by another of the same meaning.
 pub responses-line : {A : Type 0} (r : Result A ToolError) (old new : ToolArenas) (executed line : List ℕ) (held held_after : Option (List ℕ)) → line_of executed ≡ line_of line → TranscribesOne r old new executed held held_after
     → TranscribesOne r old new line held held_after
 responses-line (Ok x) old new executed line held held_after is responded = (responded.0, subst (λ l. RespondsToLine old l responded.0 new) is responded.1, responded.2)
@@ -105,7 +97,6 @@ responses-line (Err errors.Memory) old new executed line held held_after is resp
     step (inl same) = inl same
     step (inr leaves) = inr (subst (λ l. LeavesStep old l new) is leaves)
 
--- A response is written, or a first part of it.
 pub response-written : {A : Type 0} (r : Result A ToolError) (old new : ToolArenas) (line text bytes : List ℕ) (held held_after : Option (List ℕ)) → RespondsToLine old (line_of line) text new → bytes ≡ text
     → WritesText r held held_after bytes → TranscribesOne r old new line held held_after
 response-written (Ok x) old new line text bytes held held_after responses is writes = (text, responses, subst (Appends held held_after) is writes.ok)
@@ -118,13 +109,11 @@ response-written (Err errors.Write) old new line text bytes held held_after resp
   subst (λ t. Appends held held_after (take writes.err.0 t)) is writes.err.1,
 )
 
--- No memory for a response: nothing is written, and only a call may have taken effect.
 pub response-fails : {A : Type 0} (r : Result A ToolError) (old new : ToolArenas) (line : List ℕ) (held : Option (List ℕ)) → IsErrAnd r (λ e. e ≡ errors.Memory) → (new ≡ old) ⊎ LeavesStep old (line_of line) new
     → TranscribesOne r old new line held held
 response-fails {A} (Err e) old new line held fails steps = subst (λ x. TranscribesOne {A = A} (Err x) old new line held held) (sym fails) (Keeps-refl held, steps)
 response-fails (Ok x) old new line held fails steps = absurd fails
 
--- A flush writes nothing; if it fails, the response is written whole.
 pub response-flushed : {A B : Type 0} (x : A) (r : Result B ToolError) (old new : ToolArenas) (line : List ℕ) (held held_mid held_after : Option (List ℕ)) → TranscribesOne (Ok x) old new line held held_mid
     → Keeps held_mid held_after → IfErr r (λ e. e ≡ errors.Write) → TranscribesOne r old new line held held_after
 response-flushed x (Ok y) old new line held held_mid held_after responded keeps error = (responded.0, responded.1, Appends-kept held held_mid held_after _ responded.2 keeps)
@@ -137,22 +126,18 @@ response-flushed x (Err errors.Write) old new line held held_mid held_after resp
 response-flushed x (Err errors.Read) old new line held held_mid held_after responded keeps error = absurd (cc)
 response-flushed x (Err errors.Memory) old new line held held_mid held_after responded keeps error = absurd (cc)
 
--- Nothing is kept if the kept part has no length.
 pub none_kept : (kept : List ℕ) (n : ℕ) (b : Bool) → length kept ≡ n → b ≡ (n == 0) → b ≡ true → kept ≡ []
 none_kept kept n b long is empty = nil_from_length kept (grind (arith, common_steps))
 
--- Nothing was kept of a line that is read in place.
 pub line_in_place : (kept rest front whole : List ℕ) → kept ≡ [] → kept ≡ take 201 rest → whole ≡ front → line_of whole ≡ line_of (rest ++ front)
 line_in_place kept [] front whole none is same = ap line_of same
 line_in_place kept (c ∷ rest) front whole none is same = absurd (let e = sym none ∙ is in cc)
 
 module _ (old now : ToolArenas) (read done left kept : List ℕ) (held held_now : Option (List ℕ)) (so_far : Progress old (read ++ done) now kept held held_now) where
-  -- Enough is kept of a part without a line feed.
   so_far_front : (front : List ℕ) → All (IsNot 10) front → Progress old ((read ++ done) ++ front) now (take 201 (so_far.rest ++ front)) held held_now
   so_far_front front all = Progress-front old now (read ++ done) kept (take 201 (so_far.rest ++ front)) front held held_now so_far all refl
 
   module _ (front back : List ℕ) (ends : EndsFirst 10 front left back) where
-    -- The line is executed.
     pub feed-line : {A : Type 0} (new : ToolArenas) (kept_after : List ℕ) (held_new : Option (List ℕ)) (x : A)
         → ((rest : List ℕ) → kept ≡ take 201 rest → TranscribesOne (Ok x) now new (rest ++ front) held_now held_new) → kept_after ≡ []
         → Progress old (read ++ (done ++ (front ++ 10 ∷ []))) new kept_after held held_new
@@ -162,7 +147,6 @@ module _ (old now : ToolArenas) (read done left kept : List ℕ) (held held_now 
         subst (λ k. Progress old (read ++ (done ++ (front ++ 10 ∷ []))) new k held held_new) (sym is_empty)
         (subst (λ l. Progress old l new [] held held_new) (append_assoc (read ++ done) front (10 ∷ []) ∙ append_assoc read done (front ++ 10 ∷ [])) here)
 
-    -- The run stops at the line.
     pub feed-stopped : (A B : Type 0) (error : ToolError) (r : Result B ToolError) (piece : List ℕ) (new : ToolArenas) (kept_after : List ℕ) (held_new : Option (List ℕ)) → piece ≡ done ++ left
         → ((rest : List ℕ) → kept ≡ take 201 rest → TranscribesOne {A = A} (Err error) now new (rest ++ front) held_now held_new) → r ≡ Err error
         → HasProgressed r old (read ++ piece) new kept_after held held_new
@@ -174,7 +158,6 @@ module _ (old now : ToolArenas) (read done left kept : List ℕ) (held held_now 
         subst (λ q. HasProgressed q old (read ++ piece) new kept_after held held_new) (sym is)
         (subst (λ l. HasProgressed {A = B} (Err error) old l new kept_after held held_new) whole here)
 
-  -- The rest is kept, or an allocation failure stops the run.
   pub feed-kept : {A : Type 0} (r : Result A ToolError) (piece kept_after : List ℕ) → piece ≡ done ++ left → All (IsNot 10) left
       → OnOk r ((rest : List ℕ) → kept ≡ take 201 rest → kept_after ≡ take 201 (rest ++ left)) → IfErr r (λ e. e ≡ errors.Memory) → HasProgressed r old (read ++ piece) now kept_after held held_now
   feed-kept (Ok x) piece kept_after parts all keeps error =

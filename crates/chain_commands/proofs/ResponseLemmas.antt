@@ -11,7 +11,6 @@ use Rattle.chain_commands.specs.declared.command.Line.TheVariants.{Good}
 use Rattle.arena_pairs.specs.declared.calls.PairCall.TheVariants.{First, TransferToSecond}
 use Rattle.chain_commands.specs.Responses.{ToolLinks, ToolArenas, RespondsToCommand, RespondsToLine, LeavesStep, ExecutesLine, walked_text, walk_text}
 
--- Equal arenas are equal pairs.
 pub same_arenas : {a b c d : ToolLinks} → a ≡ c → b ≡ d → let p : ToolArenas = (a, b) in let q : ToolArenas = (c, d) in p ≡ q
 same_arenas first second = ap₂ (λ (x : ToolLinks) (y : ToolLinks). let p : ToolArenas = (x, y) in p) first second
 
@@ -22,13 +21,11 @@ AllocatesFirst Other = ⊤
 AllocatesFirst command = ⊥
 
 module _ {T E : Type 0} where
-  -- If the call of a line takes effect, so does the line.
   pub line_fails : (Q : E → Type 0) (old new : ToolArenas) (line : Line) (command : Command) (text : List ℕ) (r : Result T E) → IsErrAnd r Q → Good command ≡ line
       → (new ≡ old) ⊎ LeavesStep old (Good command) new → ExecutesLine r old line text new
   line_fails Q old new line command text (Ok x) fails is steps = absurd fails
   line_fails Q old new line command text (Err e) fails is steps = record { ok = tt; err = subst (λ l. (new ≡ old) ⊎ LeavesStep old l new) is steps }
 
-  -- If a response gets no line feed, its line is a call, or nothing has changed.
   unended_err : (old new : ToolArenas) (line : Line) (command : Command) (words : List ℕ) (r : Result T E) → Good command ≡ line → RespondsToCommand old command words new
       → (AllocatesFirst command → IsOk r) → OnErr r ((new ≡ old) ⊎ LeavesStep old line new)
   unended_err old new line command words (Ok x) is gives ends = tt
@@ -41,20 +38,16 @@ module _ {T E : Type 0} where
   unended_err old new line (Moves reset) words (Err e) is gives ends = absurd (let no = ends tt in cc)
   unended_err old new line Other words (Err e) is gives ends = absurd (let no = ends tt in cc)
 
-  -- The response to a command, followed by a line feed, is the response to its line.
   pub line_ends : (old new : ToolArenas) (line : Line) (command : Command) (words text : List ℕ) (r : Result T E) → Good command ≡ line → RespondsToCommand old command words new
       → text ≡ (if is_ok r then words ++ 10 ∷ [] else words) → (AllocatesFirst command → IsOk r) → ExecutesLine r old line text new
   line_ends old new line command words text (Ok x) is gives written ends = record { ok = subst (λ l. RespondsToLine old l text new) is (words, written, gives); err = tt }
   line_ends old new line command words text (Err e) is gives written ends = record { ok = tt; err = unended_err old new line command words (Err e) is gives ends }
 
-  -- `other` writes its line feed itself.
   pub other_ends : (old new : ToolArenas) (line : Line) (command : Command) (text : List ℕ) (r : Result T E) → Good command ≡ line → command ≡ Other → OnOk r ((text ≡ codes "ok\n") × (new ≡ (old.1, old.0)))
       → OnErr r (new ≡ old) → ExecutesLine r old line text new
   other_ends old new line command text (Ok x) is named done same =
       record { ok = subst (λ l. RespondsToLine old l text new) (sym (ap Good named) ∙ is) (codes "ok", done.0, (refl, done.1)); err = tt }
   other_ends old new line command text (Err e) is named done same = record { ok = tt; err = inl same }
-
--- ---- the text of a walk
 
 abbrev pub Passed : Type 0
 Passed = ℕ × (Gen32 × LinkView ℕ)
@@ -88,7 +81,6 @@ module _ (before text joined more : List ℕ) (first : Bool) (all left after : L
       by_list [] = refl
       by_list (d ∷ passed) = refl
 
-  -- The first link is appended without a space.
   pub IsWalked-first : first ≡ true → joined ≡ text → IsWalked before more false all after
   IsWalked-first none_yet same = record {
     passed = walked.passed ++ e ∷ [];
@@ -101,7 +93,6 @@ module _ (before text joined more : List ℕ) (first : Bool) (all left after : L
       by_list [] none written = link ∙ ap (λ l. l ++ walked_text e) (same ∙ written ∙ append-nil before)
       by_list (d ∷ passed) none written = absurd (false≢true (sym none))
 
-  -- Every other link is appended after a space.
   pub IsWalked-next : first ≡ false → joined ≡ text ++ 32 ∷ [] → IsWalked before more false all after
   IsWalked-next later spaced = record {
     passed = walked.passed ++ e ∷ [];

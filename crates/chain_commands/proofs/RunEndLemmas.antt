@@ -18,7 +18,6 @@ pub record HasRead (old new : ToolArenas) (kept : List ℕ) (left left_after hel
   pub reads : Consumes left left_after read
   pub so_far : Progress old read new kept held held_after
 
--- Nothing has been read.
 pub HasRead-nothing : (links : ToolArenas) (kept : List ℕ) (left held : Option (List ℕ)) → kept ≡ [] → HasRead links links kept left left held held
 HasRead-nothing links kept left held none = record {
   read = [];
@@ -27,7 +26,6 @@ HasRead-nothing links kept left held none = record {
 }
 
 module _ (old now : ToolArenas) (kept : List ℕ) (left left_now held held_now : Option (List ℕ)) (has : HasRead old now kept left left_now held held_now) where
-  -- A flush keeps the progress of the run.
   pub HasRead-flushed : (held_after : Option (List ℕ)) → Keeps held_now held_after → HasRead old now kept left left_now held held_after
   HasRead-flushed held_after keeps = record {
     read = has.read;
@@ -43,7 +41,6 @@ module _ (old now : ToolArenas) (kept : List ℕ) (left left_now held held_now :
     };
   }
 
-  -- One more piece is read.
   pub HasRead-fed : {A : Type 0} (x : A) (new : ToolArenas) (kept_after piece : List ℕ) (left_after held_after : Option (List ℕ)) → Consumes left_now left_after piece
       → HasProgressed (Ok x) old (has.read ++ piece) new kept_after held held_after → HasRead old new kept_after left left_after held held_after
   HasRead-fed x new kept_after piece left_after held_after reads so_far = record {
@@ -52,7 +49,6 @@ module _ (old now : ToolArenas) (kept : List ℕ) (left left_now held held_now :
     so_far = so_far;
   }
 
-  -- The run stops at a piece.
   pub Ends-fed : (A B : Type 0) (error : ToolError) (r : Result B ToolError) (new : ToolArenas) (kept_after piece : List ℕ) (left_after held_after : Option (List ℕ)) → Consumes left_now left_after piece
       → HasProgressed {A = A} (Err error) old (has.read ++ piece) new kept_after held held_after → r ≡ Err error → Ends r old new left left_after held held_after
   Ends-fed A B error r new kept_after piece left_after held_after reads is_error is = subst (λ q. Ends q old new left left_after held held_after) (sym is) (by_error error is_error)
@@ -67,11 +63,9 @@ module _ (old now : ToolArenas) (kept : List ℕ) (left left_now held held_now :
       by_error errors.Memory is_error =
           record { read = has.read ++ piece; lines = whole_lines (has.read ++ piece); text = is_error.0; reads = all; complete = by_line_feed; writes = is_error.2; responses = is_error.1 }
 
-  -- The whole lines are those executed.
   whole : whole_lines has.read ≡ has.so_far.lines
   whole = ap all_but_last has.so_far.cut ∙ all_but_last-append has.so_far.lines has.so_far.rest
 
-  -- The reader fails.
   pub Ends-unread : (B : Type 0) (r : Result B ToolError) (left_after : Option (List ℕ)) → Keeps left_now left_after → r ≡ Err errors.Read → Ends r old now left left_after held held_now
   Ends-unread B r left_after keeps is = subst (λ q. Ends q old now left left_after held held_now) (sym is) (record {
     read = has.read;
@@ -81,7 +75,6 @@ module _ (old now : ToolArenas) (kept : List ℕ) (left left_now held held_now :
     responses = subst (λ l. Transcribes old l has.so_far.text now) (sym whole) has.so_far.responses;
   })
 
-  -- Flushing the writer fails.
   pub Ends-unflushed : (B : Type 0) (r : Result B ToolError) (held_after : Option (List ℕ)) → Keeps held_now held_after → r ≡ Err errors.Write → Ends r old now left left_now held held_after
   Ends-unflushed B r held_after keeps is = subst (λ q. Ends q old now left left_now held held_after) (sym is) (record {
     read = has.read;
@@ -93,7 +86,6 @@ module _ (old now : ToolArenas) (kept : List ℕ) (left left_now held held_now :
     responses = subst (λ l. IsCutShort old now l has.so_far.text) (append-nil has.so_far.lines ∙ sym whole) (between has.so_far.lines [] has.so_far.text has.so_far.responses);
   })
 
-  -- The last line is executed.
   pub Ends-finished : (B : Type 0) (r : Result B ToolError) (new : ToolArenas) (left_after held_after : Option (List ℕ)) → Consumes left_now left_after [] → IsAtEnd left_after
       → ((rest : List ℕ) → kept ≡ take 201 rest → TranscribesOne r now new (rest ++ []) held_now held_after) → Ends r old new left left_after held held_after
   Ends-finished B r new left_after held_after reads end responded =
@@ -137,7 +129,6 @@ module _ (old now : ToolArenas) (kept : List ℕ) (left left_now held held_now :
         responses = subst (λ l. TranscribesSome old new l has.so_far.text) (sym has.so_far.cut) (left_unchanged responded.1);
       }
 
--- If the buffer cannot be allocated, nothing is read and nothing is written.
 pub Ends-no_capacity : (B : Type 0) (r : Result B ToolError) (error : ToolError) (links : ToolArenas) (left held : Option (List ℕ)) → error ≡ errors.Memory → r ≡ Err error → Ends r links links left left held held
 Ends-no_capacity B r error links left held memory is = subst (λ q. Ends q links links left left held held) (sym (is ∙ ap Err memory)) (record {
   read = [];

@@ -60,8 +60,6 @@ number_of-some word is =
     let front = and_from _ _ lengths (digit_words.from word is.digits) in
     sym (number_if word true (and_from _ _ front (is_nat_le _ _ is.small)))
 
--- ---- words
-
 abbrev pub is_space : ℕ → Bool
 is_space c = c == 32
 
@@ -71,7 +69,6 @@ spaces text = prefix_len is_space text
 abbrev filled : List (List ℕ) → List (List ℕ)
 filled parts = filter is_filled parts
 
--- A leading space does not change the words of a text.
 words_of-space : (c : ℕ) (text : List ℕ) → (c == 32) ≡ true → words_of (c ∷ text) ≡ words_of text
 words_of-space c text e = ap filled (slice_split-cons_yes is_space c text e)
 
@@ -84,7 +81,6 @@ words_of-after_spaces (c ∷ text) = by_test (c == 32) refl (words_of-after_spac
     by_test true e rest = ap (λ n. words_of (drop n (c ∷ text))) (one-add (spaces text)) ∙ rest ∙ sym (words_of-space c text e)
     by_test false e rest = refl
 
--- The text after leading spaces does not begin with a space.
 abbrev BeginsNoSpace : List ℕ → Type 0
 BeginsNoSpace [] = Unit {0}
 BeginsNoSpace (c ∷ text) = (c == 32) ≡ false
@@ -101,7 +97,6 @@ after_spaces_begins (c ∷ text) = by_test (c == 32) refl (after_spaces_begins t
 abbrev pub word_end : List ℕ → ℕ
 word_end text = position_or_len is_space text
 
--- The pieces after the first, if the text is cut before its first space.
 abbrev later_pieces : List ℕ → List (List ℕ)
 later_pieces [] = []
 later_pieces (c ∷ text) = slice_split is_space text
@@ -116,7 +111,6 @@ pieces-first (c ∷ text) = by_test (c == 32) refl (pieces-first text)
     by_test true e rest = refl
     by_test false e rest = ap (onto_first c) rest ∙ ap (λ n. take n (c ∷ text) ∷ later_pieces (drop n (c ∷ text))) (sym (one-add (word_end text)))
 
--- The rest begins with a space, if it is not empty.
 abbrev BeginsSpace : List ℕ → Type 0
 BeginsSpace [] = Unit {0}
 BeginsSpace (c ∷ text) = (c == 32) ≡ true
@@ -137,7 +131,6 @@ filled_first : (text : List ℕ) → 0 < length text → BeginsNoSpace text → 
 filled_first [] h e = absurd (omega arith)
 filled_first (c ∷ text) h e = ap (λ b. is_filled (take (cond (not b) (1 + word_end text) 0) (c ∷ text))) e ∙ ap (λ n. is_filled (take n (c ∷ text))) (one-add (word_end text))
 
--- The first word of a text without a leading space.
 words_of-first : (text : List ℕ) → 0 < length text → BeginsNoSpace text → words_of text ≡ take (word_end text) text ∷ words_of (drop (word_end text) text)
 words_of-first text h e =
     let n = word_end text in
@@ -146,11 +139,9 @@ words_of-first text h e =
     ∙ ap (λ b. cond b (take n text ∷ filled rest) (filled rest)) (filled_first text h e)
     ∙ ap (λ l. take n text ∷ l) (later_words (drop n text) (word_end_begins text))
 
--- No word is left.
 pub words_of-none : (text rest : List ℕ) → rest ≡ drop (length (take_while is_space text)) text → length rest ≡ 0 → words_of text ≡ []
 words_of-none text rest e none = sym (words_of-after_spaces text) ∙ ap words_of (ap (λ n. drop n text) (sym (length-prefix_len is_space text)) ∙ sym e ∙ nil_from_length rest none)
 
--- The first word, and the text after it.
 pub words_of-some : (text rest word after : List ℕ) → rest ≡ drop (length (take_while is_space text)) text → 0 < length rest
     → word ≡ take (length (take_while (λ c. not (is_space c)) rest)) rest → after ≡ drop (length (take_while (λ c. not (is_space c)) rest)) rest
     → words_of text ≡ word ∷ words_of after

@@ -12,7 +12,6 @@ use Rattle.arena_traits.specs.Entries.{entries_from, index_of}
 use Rattle.arena_traits.proofs.ArenaViewLemmas.{length-entries}
 
 module _ {Gen X : Type 0} where
-  -- The indexes of the entries in slots ascend.
   indexes-low : (slots : List (Option (Gen × X))) (i j : ℕ) → IsMember (map index_of (entries_from i slots)) j → i ≤ j
   indexes-low [] i j h = absurd h
   indexes-low (None ∷ slots) i j h = let low = indexes-low slots (suc i) j h in omega (arith, low)
@@ -24,7 +23,6 @@ module _ {Gen X : Type 0} where
   indexes-once (None ∷ slots) i = indexes-once slots (suc i)
   indexes-once (Some e ∷ slots) i = (λ h. let low = indexes-low slots (suc i) i h in omega (arith, low), indexes-once slots (suc i))
 
-  -- The indexes of the entries are exactly the occupied ones.
   indexes-are_stored : (slots : List (Option (Gen × X))) (i j : ℕ) → IsMember (map index_of (entries_from i slots)) j → (k : ℕ) × (e : Gen × X) × (i + k ≡ j) × (slice_index_or slots k None ≡ Some e)
   indexes-are_stored [] i j h = absurd h
   indexes-are_stored (None ∷ slots) i j h = let w = indexes-are_stored slots (suc i) j h in (suc w.0, w.1, omega (arith, w.2), w.3)
@@ -38,7 +36,6 @@ module _ {Gen X : Type 0} where
   are_stored-indexes (Some d ∷ slots) i j zero e at is = inl (omega (arith, at))
   are_stored-indexes (Some d ∷ slots) i j (suc k) e at is = inr (are_stored-indexes slots (suc i) j k e (omega (arith, at)) is)
 
-  -- A list of the occupied indexes, each once, is as long as there are entries.
   pub count-stored : (a : Arena Gen X) (indexes : List ℕ) → AreDistinct indexes → ((i : ℕ) (e : Gen × X) → slot_at a.slots i ≡ Some e → IsMember indexes i)
       → ((i : ℕ) → IsMember indexes i → (e : Gen × X) × (slot_at a.slots i ≡ Some e)) → entry_count a ≡ length indexes
   count-stored a indexes once each all = omega (arith, length-entries a, length-map (entries_from 1 a.slots) index_of, most, least)
@@ -54,7 +51,6 @@ module _ {Gen X : Type 0} where
           by zero e is = absurd (let h = is in cc)
           by (suc k) e is = are_stored-indexes a.slots 1 (suc k) k e (omega arith) is
 
--- Slots that hold what is given for each item at its place.
 pub slots-filled : {X : Type 0} (entry_of_item : ℕ → Option X) (xs : List ℕ) (n : ℕ) (slots : List (Option X)) → AreDistinct xs → length slots ≡ length xs
     → ((i k : ℕ) → place_from (suc n) xs i ≡ Some (suc n + k) → slice_index_or slots k None ≡ entry_of_item i) → slots ≡ map entry_of_item xs
 slots-filled entry_of_item [] n [] once same each = refl
@@ -71,7 +67,6 @@ slots-filled {X} entry_of_item (x ∷ xs) n (s ∷ slots) once same each =
         each i (suc k) (place-other (suc n) x xs i (λ same. once.0 (subst (IsMember xs) (sym same) (place-has (suc (suc n)) xs i (suc (suc n) + k) e)))
         ∙ (e ∙ ap (λ (m : ℕ). Some m) (let e : suc (suc n) + k ≡ suc n + suc k = omega arith in e)))
 
--- The values at some indexes, each of them occupied.
 pub values-filled : {Gen T : Type 0} (g : Gen) (entry_of_item : ℕ → Option (Gen × T)) (xs : List ℕ) → ((i : ℕ) → IsMember xs i → (e : Gen × T) × (entry_of_item i ≡ Some e))
     → (values : List T) × (map (λ t. Some t) values ≡ map (λ i. option_map (λ (e : Gen × T). e.1) (entry_of_item i)) xs)
     × (map {B = Option (Gen × T)} (λ t. Some (g, t)) values ≡ map {B = Option (Gen × T)} (λ i. option_map (λ (e : Gen × T). (g, e.1)) (entry_of_item i)) xs) × (length values ≡ length xs)

@@ -10,7 +10,6 @@ use Rattle.chain_compaction.specs.Permutations.{HasDestination, IsInBlock, Lists
 module _ {E : Type 0} (goal : E → Option ℕ) (start : ℕ) where
   module _ (positions : List ℕ) (k left i : ℕ) (now next : ℕ → Option E) (lists : ListsWaiting goal start k positions left now) (at : i ≡ (start + k) + 1)
       (stays : (j d : ℕ) (e : E) → (j ≢ i) → HasDestination goal next j e d → HasDestination goal now j e d) where
-    -- The other slots were in the block before.
     before : (j : ℕ) → IsInBlock start (k + 1) j → j ≢ i → IsInBlock start k j
     before j in_block ne = let low : start < j = in_block.0 in let high : j ≤ start + (k + 1) = in_block.1 in (low, by (leb_tells j (start + k)))
       where
@@ -25,7 +24,6 @@ module _ {E : Type 0} (goal : E → Option ℕ) (start : ℕ) where
         let last : slice_index positions p < start + k = w.1 in
         (first, omega arith)
 
-    -- No entry waits at the next slot.
     pub listing_skips : ((d : ℕ) (e : E) → HasDestination goal next i e d → ⊥) → ListsWaiting goal start (k + 1) positions left next
     listing_skips none = record {
       length = lists.length;
@@ -69,7 +67,6 @@ module _ {E : Type 0} (goal : E → Option ℕ) (start : ℕ) where
 module _ {E : Type 0} (goal : E → Option ℕ) (start count : ℕ) where
   module _ (positions : List ℕ) (left turn i : ℕ) (now next : ℕ → Option E) (lists : ListsWaiting goal start count positions left now) (low : turn < left) (at : i ≡ slice_index positions turn + 1)
       (stays : (j d : ℕ) (e : E) → (j ≢ i) → HasDestination goal next j e d → HasDestination goal now j e d) where
-    -- A listed slot is in the block.
     pub turn_in_block : IsInBlock start count i
     turn_in_block =
         let w : (start ≤ slice_index positions turn) × (slice_index positions turn < start + count) = lists.within turn low in
@@ -77,7 +74,6 @@ module _ {E : Type 0} (goal : E → Option ℕ) (start count : ℕ) where
         let last : slice_index positions turn < start + count = w.1 in
         (omega arith, omega arith)
 
-    -- After a move from the slot the list is the same.
     pub listing_stays : ListsWaiting goal start count positions left next
     listing_stays = record { length = lists.length; few = lists.few; within = lists.within; listed = λ j d e in_block w. by j d e in_block w (ℕ_discrete j i) }
       where
@@ -122,11 +118,9 @@ module _ {E : Type 0} (goal : E → Option ℕ) (start count : ℕ) where
           by j d e in_block w (yes t) = absurd (none d e (subst (λ (x : ℕ). HasDestination goal next x e d) t w))
           by j d e in_block w (no n) = let was = lists.listed j d e in_block (stays j d e n w) in found j was.0 n was.1 was.2 (ℕ_discrete was.0 fewer) (ℕ_discrete was.0 turn)
 
-  -- If the list is empty, no entry waits in the block.
   pub listing_ends : (positions : List ℕ) (left : ℕ) (now : ℕ → Option E) → ListsWaiting goal start count positions left now → left ≡ 0 → (j d : ℕ) (e : E) → IsInBlock start count j → HasDestination goal now j e d → ⊥
   listing_ends positions left now lists none j d e in_block w = let was = lists.listed j d e in_block w in let low : was.0 < left = was.1 in omega arith
 
--- The number of entries that wait plus the number of listed positions decreases.
 pub sum_decreases-moved : (wait less left : ℕ) → less + 1 ≡ wait → less + left < wait + left
 sum_decreases-moved wait less left is = omega arith
 
@@ -136,7 +130,6 @@ sum_decreases-shortened wait less moved left is some = omega arith
 pub sum_decreases-round : (wait was_read less left rest : ℕ) → was_read ≡ wait → rest ≤ left → rest + less ≤ was_read → 0 < left → less + rest < wait + left
 sum_decreases-round wait was_read less left rest same fewer moved some = omega arith
 
--- The touches beside those of the moves: at most one for each slot that is not in the list.
 pub touches_add : (k left : ℕ) → (k - left) + 0 ≡ (k + 1) - (left + 1)
 touches_add k left = omega arith
 
@@ -155,21 +148,18 @@ touches_round count left rest few fewer = omega arith
 pub none_more : (left : ℕ) → 0 ≡ left - left
 none_more left = omega arith
 
--- The number of positions in the list after one leaves it, and at the end.
 pub one_less_left : (left : ℕ) → 0 < left → (left - 1) + 1 ≡ left
 one_less_left left some = omega arith
 
 pub none_left : (left : ℕ) → left ≤ 0 → left ≡ 0
 none_left left none = omega arith
 
--- A listed position is below the greatest index, and a turn is below the length of the list.
 pub below_bound : (position end len greatest : ℕ) → position < end → end ≤ len → len ≤ greatest → position < greatest
 below_bound position end len greatest low fits high = omega arith
 
 pub turn_within : (turn left count : ℕ) → turn < left → left ≤ count → count ≤ 64 → turn < 64
 turn_within turn left count low few all = omega arith
 
--- The next slot is in the block, and the list has a place for it.
 pub next_in_block : (start count k i : ℕ) → i ≡ (start + k) + 1 → k < count → IsInBlock start count i
 next_in_block start count k i at low = (omega (arith, at), omega (arith, at, low))
 

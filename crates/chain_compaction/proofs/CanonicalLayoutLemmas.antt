@@ -38,15 +38,12 @@ use Rattle.chain_compaction.proofs.WorkCountLemmas.{counted_none}
 use Rattle.chain_compaction.proofs.SlotCountLemmas.{count-mapped}
 use Rattle.chain_compaction.proofs.ArrangementLemmas.{count-stored, slots-filled, values-filled}
 
--- ---- links at their places
-
 -- The link map of slots.
 abbrev pub reported_slots : {Gen T : Type 0} → List (Option (Gen × LinkView T)) → LinkMap
 reported_slots slots i = option_map interlinks_of (slot_at slots i)
 
 module _ {Gen T : Type 0} (g : Gen) (old new : List (Option (Gen × LinkView T))) (indexes : List ℕ) (arranges : IsArrangement (reported_slots old) indexes) (long : length new ≡ length indexes)
     (sent : (i d : ℕ) (x : Gen × LinkView T) → place_in indexes i ≡ Some d → slot_at old i ≡ Some x → slot_at new d ≡ Some (g, renamed_link (place_in indexes) x.1)) where
-  -- The entries with their values alone.
   abbrev value_at : ℕ → Option (Gen × T)
   value_at i = slot_at (map (option_map (on_value link_value)) old) i
 
@@ -63,7 +60,6 @@ module _ {Gen T : Type 0} (g : Gen) (old new : List (Option (Gen × LinkView T))
       ∙ (ap (option_map (on_value link_value)) (sent i (suc k) x.0 e x.1)
       ∙ sym (ap (option_map (λ (e : Gen × T). (g, e.1))) (slot_at-map (on_value link_value) old i ∙ ap (option_map (on_value link_value)) x.1)))
 
-  -- The slots are the values in the order of the list.
   arranged_slots : map (option_map (on_value link_value)) new ≡ map (λ i. option_map (λ (e : Gen × T). (g, e.1)) (value_at i)) indexes
   arranged_slots =
       slots-filled (λ i. option_map (λ (e : Gen × T). (g, e.1)) (value_at i)) indexes 0 (map (option_map (on_value link_value)) new) arranges.once (length-map new (option_map (on_value link_value)) ∙ long)
@@ -87,14 +83,9 @@ module _ {Gen T : Type 0} (g : Gen) (old new : List (Option (Gen × LinkView T))
       some_link : {l m : Interlinks} → ◌≡◌ {A = Option Interlinks} (Some l) (Some m) → l ≡ m
       some_link e = cc
 
--- ---- the count
-
 module _ {Gen T : Type 0} where
-  -- A new compactor has counted no work.
   pub counted_first : (a : Arena Gen T) (p t : ℕ) → p ≡ 0 → t ≡ 0 → HasCounted a a p t
   counted_first a p t no_placement no_touch = subst₂ (λ (p t : ℕ). HasCounted a a p t) (sym no_placement) (sym no_touch) (counted_none a)
-
--- ---- links that are to move
 
 module _ {Gen K T : Type 0} (number : K → Option ℕ) (slots : List (Option (Gen × RawLink K T))) (indexes : List ℕ) (once : AreDistinct indexes)
     (places : (j : ℕ) → destination_at number slots j ≡ place_in indexes j) (each : (i : ℕ) (e : Gen × RawLink K T) → slot_at slots i ≡ Some e → IsMember indexes i) where
@@ -135,10 +126,7 @@ module _ {Gen K T : Type 0} (number : K → Option ℕ) (slots : List (Option (G
         (from.0, w.0, w.1);
   }
 
--- ---- the passes
-
 module _ {Gen K T : Type 0} (number : K → Option ℕ) where
-  -- The link map follows from the links as contracts see them.
   pub link_map-view_after : (detached : DetachedView Gen (RawLink K T)) → link_map_in number detached.slots ≡ reported_slots (detached_view number detached).slots
   link_map-view_after detached = fun_ext (λ i. twice (slot_at detached.slots i) ∙ sym (ap (option_map interlinks_of) (slot_at-map (pair_view number) detached.slots i)))
     where
@@ -146,21 +134,18 @@ module _ {Gen K T : Type 0} (number : K → Option ℕ) where
       twice None = refl
       twice (Some e) = refl
 
-  -- Renaming links keeps the number of slots.
   pub length-renamed : (to : ℕ → Option ℕ) (one other : DetachedView Gen (RawLink K T)) → detached_view number one ≡ renamed_detached to (detached_view number other) → length one.slots ≡ length other.slots
   length-renamed to one other renamed =
       sym (length-map one.slots (option_map (pair_view number)))
       ∙ (ap (λ (h : DetachedView Gen (LinkView T)). length h.slots) renamed
       ∙ (length-map (detached_view number other).slots (option_map (on_value (renamed_link to))) ∙ length-map other.slots (option_map (pair_view number))))
 
-  -- It also keeps the number of links.
   pub count-renamed : (to : ℕ → Option ℕ) (one other : DetachedView Gen (RawLink K T)) → detached_view number one ≡ renamed_detached to (detached_view number other) → count_by is_some one.slots ≡ count_by is_some other.slots
   count-renamed to one other renamed =
       sym (count-mapped (pair_view number) one.slots)
       ∙ (ap (λ (h : DetachedView Gen (LinkView T)). count_by is_some h.slots) renamed
       ∙ (count-mapped (on_value (renamed_link to)) (detached_view number other).slots ∙ count-mapped (pair_view number) other.slots))
 
-  -- The pointers follow from the view.
   ptr-view_after : (detached : DetachedView Gen (RawLink K T)) (i : ℕ) → ptr_at (slot_at detached.slots) i ≡ ptr_at (slot_at (map (option_map (on_value link_value)) (detached_view number detached).slots)) i
   ptr-view_after detached i =
       twice (slot_at detached.slots i)
@@ -170,7 +155,6 @@ module _ {Gen K T : Type 0} (number : K → Option ℕ) where
       twice None = refl
       twice (Some e) = refl
 
-  -- Links that were taken out of an arena are well linked as they were there.
   pub agree-detached : (a : Arena Gen (RawLink K T)) (detached : DetachedView Gen (RawLink K T)) → detached ≡ detached_of a → IsWellLinked (link_map (links_view number a)) → IsWellLinked (link_map_in number detached.slots)
   agree-detached a detached is agrees = subst IsWellLinked (sym (ap (λ (h : DetachedView Gen (RawLink K T)). link_map_in number h.slots) is ∙ link_map-view_after (detached_of a))) agrees
 
@@ -205,7 +189,6 @@ module _ {F P Gen K T : Type 0} (g : F → P → P → F → Type 0) (key : P �
   links_counted : count_by is_some h2.slots ≡ length numbered.indexes
   links_counted = count-stored (record a0 { slots = h2.slots }) numbered.indexes first_arranges.once each_placed (has_entry number h2.slots numbered.indexes first_arranges.once numbered.destinations each_placed)
 
-  -- The number of slots is unchanged.
   same-length : length h2.slots ≡ length h0.slots
   same-length = length-renamed number (place_in numbered.indexes) h2 h0 numbered.renamed
 
@@ -225,7 +208,6 @@ module _ {F P Gen K T : Type 0} (g : F → P → P → F → Type 0) (key : P �
         link_is : {e h : Gen × LinkView T} → ◌≡◌ {A = Option (Gen × LinkView T)} (Some e) (Some h) → e.1 ≡ h.1
         link_is {e} {h} both = ap (link_or e.1) both
 
-    -- All links are placed.
     pub links_placed : (a3 : Arena Gen (RawLink K T)) → h3.stack_capacity ≡ h2.stack_capacity → h3.maximum ≡ h2.maximum
         → IsWork a2 a3 (count_by is_some h2.slots) (4 * count_by is_some h2.slots + length h2.slots) → AreAllPlaced number g key generation f last h0 h3 a0 a3 total 9
     links_placed a3 capacity maximum moving = record {
@@ -240,15 +222,12 @@ module _ {F P Gen K T : Type 0} (g : F → P → P → F → Type 0) (key : P �
       work = work-more numbered.work moving (length numbered.indexes) (4 * length h0.slots + 9 * length numbered.indexes) (omega (arith, links_counted)) (omega (arith, links_counted, same-length));
     }
 
-    -- No link has a destination.
     pub links_at_rest : AreAtRest number h3.slots
     links_at_rest = record { none = λ j. by j (slot_at h3.slots j) refl }
       where
         by : (j : ℕ) (o : Option (Gen × RawLink K T)) → slot_at h3.slots j ≡ o → destination_at number h3.slots j ≡ None
         by j None is = ap (option_and_then (destination_of number)) is
         by j (Some e) is = ap (option_and_then (destination_of number)) is ∙ (moved.back j e is).settled.empty
-
--- ---- links that were read before
 
 module _ {F P Gen K T : Type 0} (g : F → P → P → F → Type 0) (key : P → ℕ × Gen) (f last : F) (number : K → Option ℕ) (generation : Gen) (h0 h1 h3 : DetachedView Gen (RawLink K T))
     (same : h1 ≡ h0) (a0 a1 a3 : Arena Gen (RawLink K T)) (total most links : ℕ) (counts : links ≡ count_by is_some h0.slots) (reading : IsWork a0 a1 0 links)
@@ -262,7 +241,6 @@ module _ {F P Gen K T : Type 0} (g : F → P → P → F → Type 0) (key : P �
       (λ i e s. (read_arranges.valid i).0 (record { link = body_interlinks number e; links = ap (option_map (body_interlinks number)) s }))
       (λ i h. stored_at number h1.slots i ((read_arranges.valid i).1 h))
 
-  -- All links are placed, with at most one more touch per link.
   pub placed_after_reads : (more : ℕ) → most + 1 ≤ more → AreAllPlaced number g key generation f last h0 h3 a0 a3 total more
   placed_after_reads more few = subst (λ (h : DetachedView Gen (RawLink K T)). AreAllPlaced number g key generation f last h h3 a0 a3 total more) same (record {
     indexes = done.indexes;
@@ -283,8 +261,6 @@ module _ {F P Gen K T : Type 0} (g : F → P → P → F → Type 0) (key : P �
       enough =
           let times : (most + 1) * length done.indexes ≤ more * length done.indexes = mul-le-mul_right (length done.indexes) few in
           omega (arith, count, times)
-
--- ---- after the slots are given back
 
 module _ {F P Gen K T : Type 0} (g : F → P → P → F → Type 0) (key : P → ℕ × Gen) (f last : F) (number : K → Option ℕ) (generation : Gen) (old : Arena Gen (RawLink K T)) (h0 h3 : DetachedView Gen (RawLink K T))
     (is_detached : h0 ≡ detached_of old) (a1 a3 : Arena Gen (RawLink K T)) (total : ℕ) (done : AreAllPlaced number g key generation f last h0 h3 a1 a3 total 10) where
@@ -373,7 +349,6 @@ module _ {F P Gen K T : Type 0} (g : F → P → P → F → Type 0) (key : P �
         pointers : ptr_at (slot_at h0.slots) ≡ ptr_at (entry (links_view number old))
         pointers = fun_ext (λ i. ap (λ (h : DetachedView Gen (RawLink K T)). ptr_at (slot_at h.slots) i) is_detached ∙ ptr-view_after number (detached_of old) i)
 
-    -- What was counted is the work.
     pub work_known : (p t : ℕ) → HasCounted a1 a3 p t → length old.slots ≤ greatest → greatest < 2 ^ 64 → (a3.placed ≡ old.placed + p) × (a3.touched ≡ old.touched + t)
     work_known p t had fits bound =
         let placed : old.placed + had.placements ≡ a3.placed = ap (λ (a : Arena Gen (RawLink K T)). a.placed + had.placements) (sym lent) ∙ sym (ap (λ (a : Arena Gen (RawLink K T)). a.placed) had.arena) in

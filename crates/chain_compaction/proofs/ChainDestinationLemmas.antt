@@ -27,9 +27,6 @@ use Rattle.chain_compaction.specs.Destinations.{renamed_link, number_after, AreN
 use Rattle.chain_compaction.proofs.DetachedLinkLemmas.{work-none, work-more}
 use Rattle.chain_compaction.proofs.LinkRewriteLemmas.{viewed_as, destination_written, written_own, viewed_at, relinked_none, relinked_as, relinked_more, relinked_over}
 
--- ---- a walk along a chain
-
--- A later item of a list is not its first item.
 not_first : (ys : List ℕ) (i z : ℕ) (ws : List ℕ) (start : ℕ) → AreDistinct (ys ++ i ∷ z ∷ ws) → first_or (ys ++ i ∷ z ∷ ws) None ≡ Some start → z ≢ start
 not_first [] i z ws start once first s = let same : i ≡ start = cc in once.0 (inl (s ∙ sym same))
 not_first (y ∷ ys) i z ws start once first s =
@@ -42,7 +39,6 @@ step_to start ys i [] after once first (inl e) = ap (step_forward start) e
 step_to start ys i [] after once first (inr e) = ap (step_forward start) e ∙ if_same start start None (Some start) refl
 step_to start ys i (z ∷ ws) after once first e = if_other z start None (Some z) (not_first ys i z ws start once first)
 
--- From the item i of a chain a walker goes on to the next item.
 pub chain_continues : (link_map : LinkMap) (c : Chain) (start : ℕ) (ys : List ℕ) (i : ℕ) (zs : List ℕ) → IsChain link_map c → first_or (items c) None ≡ Some start → items c ≡ ys ++ i ∷ zs
     → step_forward start (next_of link_map i) ≡ first_or zs None
 chain_continues link_map (linear xs) start ys i zs h first parts =
@@ -54,18 +50,14 @@ chain_continues link_map (cyclic xs) start ys i zs h first parts =
     ap (λ (o : Option Interlinks). step_forward start (next_in o)) (AreLinked-at link_map (last_or xs None) ys zs (first_or xs None) i stored)
     ∙ step_to start ys i zs (first_or xs None) (subst AreDistinct parts h.1) (ap (λ (l : List ℕ). first_or l None) (sym parts) ∙ first) (inr first)
 
--- ---- a visitor that sees links
-
 folds_append : {P A : Type 0} (R : P → A → P → Type 0) (p q r : P) (xs ys : List A) → FoldsTo R p xs q → FoldsTo R q ys r → FoldsTo R p (xs ++ ys) r
 folds_append R p q r [] ys first second = subst (λ k. FoldsTo R k ys r) (sym first) second
 folds_append R p q r (x ∷ xs) ys first second = (first.0, first.1, folds_append R first.0 q r xs ys first.2 second)
 
 module _ {F P Gen : Type 0} (g : F → P → P → F → Type 0) (key : P → ℕ × Gen) (pointer : ℕ → Option (ℕ × Gen)) (generation : Gen) where
-  -- The visitor has seen no link.
   pub reports_none : (n : ℕ) (f : F) → ReportsMoves g key pointer generation n f [] f
   reports_none n f = record { moves = []; in_turn = refl; from = refl; to = refl }
 
-  -- The visitor sees one link.
   pub reports_one : (n : ℕ) (f next : F) (i : ℕ) (p q : P) → Some (key p) ≡ pointer i → key q ≡ (n, generation) → g f p q next
       → ReportsMoves g key pointer generation n f (i ∷ []) next
   reports_one n f next i p q from to called = record {
@@ -75,7 +67,6 @@ module _ {F P Gen : Type 0} (g : F → P → P → F → Type 0) (key : P → �
     to = ap (λ k. k ∷ []) to;
   }
 
-  -- The visitor sees some links, and then others.
   pub reports_then : (n : ℕ) (f mid last : F) (xs ys : List ℕ) → ReportsMoves g key pointer generation n f xs mid → ReportsMoves g key pointer generation (n + length xs) mid ys last
       → ReportsMoves g key pointer generation n f (xs ++ ys) last
   reports_then n f mid last xs ys one two = record {
@@ -89,10 +80,7 @@ module _ {F P Gen : Type 0} (g : F → P → P → F → Type 0) (key : P → �
         ∙ ap (λ (ks : List ℕ). map (λ (k : ℕ). (k, generation)) ks) (range_with_len-append n (length xs) (length ys) ∙ ap (range_with_len n) (sym (length-append xs ys)))));
   }
 
--- ---- slots in which links get destinations
-
 module _ {Gen K T : Type 0} (number : K → Option ℕ) where
-  -- The entry of a link.
   pub stored_at : (slots : List (Option (Gen × RawLink K T))) (i : ℕ) → HasLink (link_map_in number slots) i → (e : Gen × RawLink K T) × (slot_at slots i ≡ Some e)
   stored_at slots i v = by (slot_at slots i) refl v.links
     where
@@ -100,7 +88,6 @@ module _ {Gen K T : Type 0} (number : K → Option ℕ) where
       by None is e = absurd (cc)
       by (Some x) is e = (x, is)
 
-  -- One more link has a destination.
   pub one_numbered : (now new : DetachedView Gen (RawLink K T)) (i : ℕ) (e : Gen × RawLink K T) (w : RawLink K T) → slot_at now.slots i ≡ Some e → new ≡ detached_with_value now i w → (count : ℕ) (done : List ℕ) → AreNumbered number now.slots count done
       → (IsMember done i → ⊥) → number w.destination ≡ Some (count + 1) → AreNumbered number new.slots (count + 1) (done ++ i ∷ [])
   one_numbered now new i e w stored wrote count done n fresh value = record {
@@ -114,7 +101,6 @@ module _ {Gen K T : Type 0} (number : K → Option ℕ) where
           ∙ (value ∙ (ap (λ (m : ℕ). Some (m + 1)) n.counts ∙ (sym (place-last done i fresh) ∙ ap (place_in (done ++ i ∷ [])) (sym s)))))
       after j (no ne) = destination_written now new i e w stored wrote number j ne ∙ (n.destinations j ∙ sym (place-before_last done i j (λ s. ne (sym s))))
 
-  -- A link was overwritten, with its destination unchanged.
   pub still_numbered : (now new : DetachedView Gen (RawLink K T)) (i : ℕ) (e : Gen × RawLink K T) (w : RawLink K T) → slot_at now.slots i ≡ Some e → new ≡ detached_with_value now i w → (count : ℕ) (done : List ℕ) → AreNumbered number now.slots count done
       → number w.destination ≡ number e.1.destination → AreNumbered number new.slots count done
   still_numbered now new i e w stored wrote count done n same = record { destinations = λ j. after j (ℕ_discrete j i); counts = n.counts }
@@ -124,8 +110,6 @@ module _ {Gen K T : Type 0} (number : K → Option ℕ) where
           ap (destination_at number new.slots) s
           ∙ (written_own now new i e w stored wrote number ∙ (same ∙ (sym (ap (option_and_then (destination_of number)) stored) ∙ (n.destinations i ∙ ap (place_in done) (sym s)))))
       after j (no ne) = destination_written now new i e w stored wrote number j ne ∙ n.destinations j
-
--- ---- what the links of a chain name, before and after
 
 -- What the first link of a chain names as `prev`, and the last one as `next`.
 abbrev pub behind_of : Chain → Option ℕ
@@ -140,12 +124,10 @@ chain_stored : (link_map : LinkMap) (c : Chain) → IsChain link_map c → AreLi
 chain_stored link_map (linear xs) h = h.2
 chain_stored link_map (cyclic xs) h = h.2
 
--- The item i of a chain names the items next to it.
 chain_names : (link_map : LinkMap) (c : Chain) (ys : List ℕ) (i : ℕ) (zs : List ℕ) → IsChain link_map c → items c ≡ ys ++ i ∷ zs
     → link_map i ≡ Some (record { prev = last_or ys (behind_of c); next = first_or zs (ahead_of c) })
 chain_names link_map c ys i zs h parts = AreLinked-at link_map (behind_of c) ys zs (ahead_of c) i (subst (λ (l : List ℕ). AreLinked link_map (behind_of c) l (ahead_of c)) parts (chain_stored link_map c h))
 
--- The place of an item.
 place-middle : (n : ℕ) (ys : List ℕ) (z : ℕ) (ws : List ℕ) → AreDistinct (ys ++ z ∷ ws) → place_from n (ys ++ z ∷ ws) z ≡ Some (n + length ys)
 place-middle n ys z ws once = place-append n ys (z ∷ ws) z (λ h. AreDistinct-apart ys (z ∷ ws) z once h (inl refl)) ∙ place-same (n + length ys) ws z
 
@@ -153,21 +135,18 @@ place-middle n ys z ws once = place-append n ys (z ∷ ws) z (λ h. AreDistinct-
 abbrev pub begun_link : {T : Type 0} → (ℕ → Option ℕ) → ℕ → ℕ → LinkView T → LinkView T
 begun_link to start j link = record { prev = if j == start then None else option_and_then to link.prev; next = option_and_then to link.next; value = link.value }
 
--- Any link but the start is renamed.
 begun_other : {T : Type 0} (to : ℕ → Option ℕ) (start j : ℕ) → j ≢ start → begun_link {T = T} to start j ≡ renamed_link to
 begun_other {T} to start j differs = fun_ext (λ l k. record { prev = if_other j start None (option_and_then to l.prev) differs k; next = option_and_then to l.next; value = l.value })
 
 begun_first : {T : Type 0} (to : ℕ → Option ℕ) (start j : ℕ) (l : LinkView T) → j ≡ start → option_and_then to l.prev ≡ None → begun_link to start j l ≡ renamed_link to l
 begun_first to start j l same none = λ k. record { prev = (if_same j start None (option_and_then to l.prev) same ∙ sym none) k; next = option_and_then to l.next; value = l.value }
 
--- The new `prev` of a link of the chain.
 named_before : (to : ℕ → Option ℕ) (start : ℕ) (ys : List ℕ) (i : ℕ) (zs : List ℕ) (behind : Option ℕ) → AreDistinct (ys ++ i ∷ zs) → first_or (ys ++ i ∷ zs) None ≡ Some start
     → option_and_then to (last_or ys None) ≡ (if i == start then None else option_and_then to (last_or ys behind))
 named_before to start [] i zs behind once first = sym (if_same i start None _ (one_some first))
 named_before to start (y ∷ ys) i zs behind once first =
     sym (if_other i start None _ (λ s. once.0 (subst (IsMember (ys ++ i ∷ zs)) (s ∙ sym (one_some first)) (IsMember-middle ys zs i))))
 
--- The new `next` of a link of the chain.
 named_after : (c : Chain) (n : ℕ) (start : ℕ) (ys : List ℕ) (i : ℕ) (zs : List ℕ) → items c ≡ ys ++ i ∷ zs → AreDistinct (items c) → first_or (items c) None ≡ Some start → (count : ℕ) → count ≡ n + length ys
     → number_after (first_or zs None) (first_or zs (ahead_of c)) n (count + 1) ≡ option_and_then (place_from (n + 1) (items c)) (first_or zs (ahead_of c))
 named_after c n start ys i (z ∷ ws) parts once first count at =
@@ -178,8 +157,6 @@ named_after c n start ys i (z ∷ ws) parts once first count at =
 named_after (linear xs) n start ys i [] parts once first count at = refl
 named_after (cyclic []) n start ys i [] parts once first count at = refl
 named_after (cyclic (x ∷ xs)) n start ys i [] parts once first count at = sym (place-same (n + 1) xs x)
-
--- ---- the walk that numbers a chain
 
 -- The walk has numbered the links so far, and the visitor has seen them. The next link was named by
 -- the last, and is to name it.
@@ -198,14 +175,12 @@ pub record IsWalking {Gen K T F P : Type 0} (number : K → Option ℕ) (g : F �
 
 module _ {Gen K T F P : Type 0} (number : K → Option ℕ) (g : F → P → P → F → Type 0) (key : P → ℕ × Gen) (generation : Gen) (f : F) (old : DetachedView Gen (RawLink K T)) (first : Arena Gen (RawLink K T))
     (start before : ℕ) (done : List ℕ) (c : Chain) (can : CanNumber number old.slots start before done c) where
-  -- The destinations of the links.
   abbrev to : ℕ → Option ℕ
   to = place_from (length done + 1) (items c)
 
   chain_is_once : AreDistinct (items c)
   chain_is_once = chain_once (link_map_in number old.slots) c can.chain
 
-  -- The walk begins.
   pub walk_begins : IsWalking number g key generation f f old old first first before start (Some start) (Some start) None done c
   walk_begins = record {
     passed = [];
@@ -224,7 +199,6 @@ module _ {Gen K T F P : Type 0} (number : K → Option ℕ) (g : F → P → P �
       whatever [] e = absurd (cc)
       whatever (x ∷ xs) e = e
 
-  -- Before the first link there is a free number.
   pub walk_first : before < length old.slots
   walk_first = by (items c) can.starts can.fits
     where
@@ -254,7 +228,6 @@ module _ {Gen K T F P : Type 0} (number : K → Option ℕ) (g : F → P → P �
       begun_all : AreRelinked number (begun_link to start) old now (items c)
       begun_all = subst (AreRelinked number (begun_link to start) old now) all_passed w.relinking
 
-      -- The start is the first item, and there is a link at it.
       begins : (xs : List ℕ) × (items c ≡ start ∷ xs)
       begins = by (items c) can.starts
         where
@@ -274,7 +247,6 @@ module _ {Gen K T F P : Type 0} (number : K → Option ℕ) (g : F → P → P �
       has_start : IsMember (items c) start
       has_start = subst (λ (xs : List ℕ). IsMember xs start) (sym begins.1) (inl refl)
 
-      -- In a linear chain nothing was overwritten.
       stays_linear : behind_of c ≡ None → new ≡ now → AreNumbered number new.slots count (done ++ items c) × AreRelinked number (λ _. renamed_link to) old new (items c)
       stays_linear none same = (
         subst (λ (h : DetachedView Gen (RawLink K T)). AreNumbered number h.slots count (done ++ items c)) (sym same) numbered_all,
@@ -296,7 +268,6 @@ module _ {Gen K T F P : Type 0} (number : K → Option ℕ) (g : F → P → P �
           by j (yes s) = own j s (slot_at old.slots j) refl
           by j (no differs) = ap (λ (f : LinkView T → LinkView T). option_map (on_value f) (viewed_at number old j)) (begun_other to start j differs)
 
-      -- In a cyclic chain the start was overwritten.
       closes_ring : (k : ℕ) → named ≡ Some k → prev ≡ option_and_then to (behind_of c) → AreNumbered number new.slots count (done ++ items c) × AreRelinked number (λ _. renamed_link to) old new (items c)
       closes_ring k some is_last = by (slot_at now.slots start) refl
         where
@@ -319,7 +290,6 @@ module _ {Gen K T F P : Type 0} (number : K → Option ℕ) (g : F → P → P �
                     (here ∙ sym (ap (λ (o : Option (Gen × RawLink K T)). option_map (on_value (renamed_link to)) (option_map (pair_view number) o)) start_was_stored.1)),
               )
 
-      -- The two cases together.
       ended : AreNumbered number new.slots count (done ++ items c) × AreRelinked number (λ _. renamed_link to) old new (items c)
       ended = by c refl
         where
@@ -341,7 +311,6 @@ module _ {Gen K T F P : Type 0} (number : K → Option ℕ) (g : F → P → P �
       }
 
     module _ (i : ℕ) (w : IsWalking number g key generation f last old now first later count start (Some i) named prev done c) where
-      -- The remaining items begin with the next link.
       here : (zs : List ℕ) × (items c ≡ w.passed ++ i ∷ zs)
       here = by w.ahead w.next w.parts
         where
@@ -349,11 +318,9 @@ module _ {Gen K T F P : Type 0} (number : K → Option ℕ) (g : F → P → P �
           by [] e parts = absurd (cc)
           by (z ∷ zs) e parts = (zs, parts ∙ ap (λ (k : ℕ). w.passed ++ k ∷ zs) (sym (one_some e)))
 
-      -- The number of links counted.
       counted : count ≡ length done + length w.passed
       counted = w.numbered.counts ∙ length-append done w.passed
 
-      -- There is a free number for the next link.
       pub walk_capacity : count < length old.slots
       walk_capacity =
           let l : length (items c) ≡ length w.passed + suc (length here.0) = ap length here.1 ∙ length-append w.passed (i ∷ here.0) in
@@ -373,7 +340,6 @@ module _ {Gen K T F P : Type 0} (number : K → Option ℕ) (g : F → P → P �
           by (inl m) = can.apart i has m
           by (inr m) = not_passed m
 
-      -- The next link is as it was at first.
       as_first : slot_at now.slots i ≡ slot_at old.slots i
       as_first = w.relinking.stay i not_passed
 
@@ -383,7 +349,6 @@ module _ {Gen K T F P : Type 0} (number : K → Option ℕ) (g : F → P → P �
       pub walk_stored : (e : Gen × RawLink K T) × (slot_at now.slots i ≡ Some e)
       walk_stored = stored_at number now.slots i (record { link = _; links = reports_here })
 
-      -- A read finds the next link.
       pub walk_returns : None ≡ option_map (λ (e : Gen × RawLink K T). e.0) (slot_at now.slots i) → ⊥
       walk_returns none = let both = none ∙ ap (option_map (λ (e : Gen × RawLink K T). e.0)) walk_stored.1 in cc
 
@@ -397,7 +362,6 @@ module _ {Gen K T F P : Type 0} (number : K → Option ℕ) (g : F → P → P �
             ∙ (ap (step_forward start) (is_next ∙ ap (λ (o : Option (Gen × RawLink K T)). next_in (option_map (body_interlinks number) o)) as_first)
             ∙ chain_continues (link_map_in number old.slots) c start w.passed i here.0 can.chain can.starts here.1)
 
-        -- If the walk goes on, there is a free number for the link after it too.
         pub walk_more : (k : ℕ) → on ≡ Some k → count + 1 < length old.slots
         walk_more k some =
             let filled : 1 ≤ length here.0 = by here.0 (sym steps_next ∙ some) in
@@ -409,7 +373,6 @@ module _ {Gen K T F P : Type 0} (number : K → Option ℕ) (g : F → P → P �
             by [] e = absurd (cc)
             by (z ∷ zs) e = omega arith
 
-        -- The walk goes on.
         pub walk_continues : (d : ℕ) (new : DetachedView Gen (RawLink K T)) (last_work : Arena Gen (RawLink K T)) (was : Gen) (p q : P) (next : F)
             → IsRelinkedAt number i prev (number_after on follows before (count + 1)) (Some d) now new → d ≡ count + 1 → IsWork later last_work 0 2 → Some was ≡ option_map (λ (e : Gen × RawLink K T). e.0) (slot_at now.slots i)
             → key p ≡ (i, was) → key q ≡ (d, generation) → g last p q next

@@ -31,8 +31,6 @@ use Rattle.chain_compaction.proofs.ArrangementLemmas.{count-stored}
 use Rattle.chain_compaction.proofs.ChainDestinationLemmas.{stored_at, reports_none, reports_then}
 use Rattle.chain_compaction.proofs.LinkRewriteLemmas.{viewed_as, relinked_none, relinked_as, relinked_ptr, relinked_then, all_relinked}
 
--- ---- chains in order
-
 ascends-right : (cs ds : List Chain) → IsSortedByLeast (cs ++ ds) → IsSortedByLeast ds
 ascends-right [] ds r = r
 ascends-right (c ∷ cs) ds r = ascends-right cs ds r.1
@@ -84,8 +82,6 @@ next_chain (c ∷ cs) k i is ascends low h = chosen (IsMember-parts (items c) (a
     }
     chosen (inr h) = absurd (let a : i < i = above i h in omega arith)
 
--- ---- slots with and without destinations
-
 module _ {Gen K T : Type 0} (number : K → Option ℕ) where
   fresh_reported : (s : Option (Gen × RawLink K T)) → is_fresh number s ≡ true → (link : Interlinks) × (option_map (body_interlinks number) s ≡ Some link)
   fresh_reported None e = absurd (cc)
@@ -107,7 +103,6 @@ module _ {Gen K T : Type 0} (number : K → Option ℕ) where
       by None e none = cc
       by (Some i) e none = cc
 
-  -- Renamings that agree on the links of a chain rename them alike.
   renamed_alike : (to also : ℕ → Option ℕ) (slots : List (Option (Gen × RawLink K T))) (c : Chain) → IsChain (link_map_in number slots) c → ((j : ℕ) → IsMember (items c) j → to j ≡ also j) → (i : ℕ) → IsMember (items c) i
       → option_map (on_value (renamed_link to)) (option_map (pair_view number) (slot_at slots i)) ≡ option_map (on_value (renamed_link also)) (option_map (pair_view number) (slot_at slots i))
   renamed_alike to also slots c h same i m = by (slot_at slots i) refl
@@ -125,8 +120,6 @@ module _ {Gen K T : Type 0} (number : K → Option ℕ) where
           let prev = alike (number e.1.prev) (λ j s. closed.back i j m (ap (λ (o : Option (Gen × RawLink K T)). prev_in (option_map (body_interlinks number) o)) is ∙ s)) in
           let next = alike (number e.1.next) (λ j s. closed.forward i j m (ap (λ (o : Option (Gen × RawLink K T)). next_in (option_map (body_interlinks number) o)) is ∙ s)) in
           ap (viewed_as e.0) (λ k. record { prev = prev k; next = next k; value = e.1.t })
-
--- ---- the loop over all slots
 
 -- The chains with an index up to k are numbered, and the visitor has seen them in order. Reads ahead
 -- have cost some touches, and `credit` more are allowed.
@@ -146,7 +139,6 @@ pub record IsOrdering {Gen K T F P : Type 0} (number : K → Option ℕ) (g : F 
   pub work : IsWork before after 0 (ahead + (k + 4 * length (all_items done)))
 
 module _ {Gen K T F P : Type 0} (number : K → Option ℕ) (g : F → P → P → F → Type 0) (key : P → ℕ × Gen) (generation : Gen) (f : F) (old : DetachedView Gen (RawLink K T)) (before : Arena Gen (RawLink K T)) where
-  -- No slot is passed yet.
   pub order_begins : IsWellLinked (link_map_in number old.slots) → ((j : ℕ) → destination_at number old.slots j ≡ None) → (credit : ℕ) → credit ≤ length old.slots
       → IsOrdering number g key generation f f old old before before 0 0 credit
   order_begins agrees none credit few =
@@ -168,7 +160,6 @@ module _ {Gen K T F P : Type 0} (number : K → Option ℕ) (g : F → P → P �
       }
 
   module _ (last : F) (now : DetachedView Gen (RawLink K T)) (after : Arena Gen (RawLink K T)) (count k credit : ℕ) (o : IsOrdering number g key generation f last old now before after count k credit) where
-    -- A link that is not numbered yet is unchanged.
     as_old : (j : ℕ) → (IsMember (all_items o.done) j → ⊥) → link_map_in number now.slots j ≡ link_map_in number old.slots j
     as_old j out = ap (option_map (body_interlinks number)) (o.relinked.stay j out)
 
@@ -184,14 +175,12 @@ module _ {Gen K T F P : Type 0} (number : K → Option ℕ) (g : F → P → P �
     rest_valid : (j : ℕ) → IsMember (all_items o.rest) j → HasLink (link_map_in number old.slots) j
     rest_valid j h = (o.are.partition.valid j).1 (subst (λ (xs : List ℕ). IsMember xs j) (sym all_parts) (IsMember-right (all_items o.done) (all_items o.rest) j h))
 
-    -- A link without a destination is in no chain that is numbered.
     not_numbered : (i : ℕ) → is_fresh number (slot_at now.slots i) ≡ true → IsMember (all_items o.done) i → ⊥
     not_numbered i fresh h =
         let p = has-place 1 (all_items o.done) i h in
         let none : None ≡ Some p.0 = sym (fresh_none number (slot_at now.slots i) fresh) ∙ (o.numbered.destinations i ∙ p.1) in
         absurd (cc)
 
-    -- Its chain is unchanged.
     kept_chain : (i : ℕ) → is_fresh number (slot_at now.slots i) ≡ true → (c : Chain) → IsChain (link_map_in number old.slots) c → IsMember (items c) i → IsChain (link_map_in number now.slots) c
     kept_chain i fresh c h m = IsChain-frame (link_map_in number old.slots) (link_map_in number now.slots) c (λ j n. sym (as_old j (out j n))) h
       where
@@ -201,14 +190,12 @@ module _ {Gen K T F P : Type 0} (number : K → Option ℕ) (g : F → P → P �
             let among : HasChain o.chains e.0 = subst (λ (cs : List Chain). HasChain cs e.0) (sym o.parts) (has_chain-left o.done o.rest e.0 e.1) in
             not_numbered i fresh (IsMember-all_items o.done e.0 i e.1 (chains_share (link_map_in number old.slots) c e.0 j i h (are.each e.0 among) n e.2 m))
 
-    -- Its start was the same before.
     start_was : (i start : ℕ) → is_fresh number (slot_at now.slots i) ≡ true → IsStart (link_map_in number now.slots) i start → IsStart (link_map_in number old.slots) i start
     start_was i start fresh from = record {
       in_linear = λ xs h m. from.in_linear xs (kept_chain i fresh (linear xs) h m) m;
       in_cyclic = λ xs h. from.in_cyclic xs (kept_chain i fresh (cyclic (i ∷ xs)) h (inl refl));
     }
 
-    -- Starts that were known or are found now.
     pub order_starts : (mid : DetachedView Gen (RawLink K T)) → mid ≡ now → (was first : ℕ) (known starts : List ℕ) → AreStarts (link_map_in number old.slots) was known
         → ((first ≡ was) × (starts ≡ known)) ⊎ AreStartsOfFresh number mid.slots first starts → AreStarts (link_map_in number old.slots) first starts
     order_starts mid lookup was first known starts at (inl e) = subst (λ (n : ℕ). AreStarts (link_map_in number old.slots) n starts) (sym e.0) (subst (AreStarts (link_map_in number old.slots) was) (sym e.1) at)
@@ -216,7 +203,6 @@ module _ {Gen K T F P : Type 0} (number : K → Option ℕ) (g : F → P → P �
         let here = subst (λ (h : DetachedView Gen (RawLink K T)). AreStartsOfFresh number h.slots first starts) lookup found in
         λ d some. start_was (first + d + 1) (slice_index starts d) (here.1 d some) (here.0 d some)
 
-    -- No link is left.
     ended : ((y : ℕ) → IsMember (all_items o.rest) y → ⊥) → k ≤ length old.slots → AreAllNumbered number g key generation f last old now before after count
     ended none few = record {
       indexes = all_items o.done;
@@ -236,7 +222,6 @@ module _ {Gen K T F P : Type 0} (number : K → Option ℕ) (g : F → P → P �
         each j e is =
             subst (λ (xs : List ℕ). IsMember xs j) whole ((o.are.partition.valid j).0 (record { link = body_interlinks number e; links = ap (option_map (body_interlinks number)) is }))
 
-    -- All slots are passed.
     pub order_ends : k ≡ length old.slots → AreAllNumbered number g key generation f last old now before after count
     order_ends all = ended none (omega (arith, all))
       where
@@ -246,7 +231,6 @@ module _ {Gen K T F P : Type 0} (number : K → Option ℕ) (g : F → P → P �
             let high : y ≤ length old.slots = ((slots-within (body_interlinks number) old.slots).within y (rest_valid y h)).1 in
             omega (arith, all)
 
-    -- As many links are numbered as there are.
     pub order_full : count ≡ count_by is_some old.slots → k ≤ length old.slots → AreAllNumbered number g key generation f last old now before after count
     order_full full few = ended none few
       where
@@ -264,7 +248,6 @@ module _ {Gen K T F P : Type 0} (number : K → Option ℕ) (g : F → P → P �
         none = nothing (all_items o.rest) (omega (arith, full, stored, o.numbered.counts, ap length all_parts, length-append (all_items o.done) (all_items o.rest)))
 
     module _ (i : ℕ) (is : i ≡ k + 1) where
-      -- The next slot holds no link without a destination.
       pub order_skips : (mid : DetachedView Gen (RawLink K T)) (was_read : Arena Gen (RawLink K T)) → mid ≡ now → is_fresh number (slot_at now.slots i) ≡ false → IsWork after was_read 0 1
           → IsOrdering number g key generation f last old mid before was_read count (k + 1) credit
       order_skips mid was_read same stale lookup = record {
@@ -324,7 +307,6 @@ module _ {Gen K T F P : Type 0} (number : K → Option ℕ) (g : F → P → P �
         first_written : StartsAtLeast the_next.first
         first_written = o.are.order.written the_next.first first_here
 
-        -- The chain is written from where the walk back ended.
         starts : (start : ℕ) → IsStart (link_map_in number now.slots) i start → first_or (items the_next.first) None ≡ Some start
         starts start from = by the_next.first first_chain first_written the_next.has the_next.least
           where
@@ -338,7 +320,6 @@ module _ {Gen K T F P : Type 0} (number : K → Option ℕ) (g : F → P → P �
                 let at : start ≡ i = from.in_cyclic xs (subst (λ (z : ℕ). IsChain (link_map_in number now.slots) (cyclic (z ∷ xs))) same h) in
                 ap (λ (z : ℕ). Some z) (same ∙ sym at)
 
-        -- A start that was known is still that.
         start_is : (start : ℕ) → IsStart (link_map_in number old.slots) i start → IsStart (link_map_in number now.slots) i start
         start_is start from = record {
           in_linear = λ xs h m. from.in_linear xs (was_chain (linear xs) h m) m;
@@ -350,7 +331,6 @@ module _ {Gen K T F P : Type 0} (number : K → Option ℕ) (g : F → P → P �
                 IsChain-frame (link_map_in number now.slots) (link_map_in number old.slots) c
                 (λ j n. as_old j (apart j (chains_share (link_map_in number now.slots) c the_next.first i j h first_chain m the_next.has n))) h
 
-        -- The chain is found from i.
         found_from : HasChainFrom (link_map_in number now.slots) i
         found_from = by the_next.first first_chain first_written the_next.has the_next.least
           where
@@ -363,7 +343,6 @@ module _ {Gen K T F P : Type 0} (number : K → Option ℕ) (g : F → P → P �
                 let same : x ≡ i = omega arith in
                 (xs, inr (subst (λ (z : ℕ). IsChain (link_map_in number now.slots) (cyclic (z ∷ xs))) same h))
 
-        -- The walk back reads no more links than the chain has.
         start_work : (a b : Arena Gen (RawLink K T)) (on : ℕ) → ((xs : List ℕ) → IsChain (link_map_in number now.slots) (linear xs) → IsMember xs i → IsWork a b 0 (length xs + on))
             → ((xs : List ℕ) → IsChain (link_map_in number now.slots) (cyclic (i ∷ xs)) → IsWork a b 0 (length xs + 1 + on)) → IsWork a b 0 (length (items the_next.first) + on)
         start_work a b on in_linear in_cyclic = by the_next.first first_chain first_written the_next.has the_next.least
@@ -397,7 +376,6 @@ module _ {Gen K T F P : Type 0} (number : K → Option ℕ) (g : F → P → P �
           pub order_found : HasChainFrom (link_map_in number mid.slots) i
           order_found = subst (λ (h : DetachedView Gen (RawLink K T)). HasChainFrom (link_map_in number h.slots) i) (sym lookup) found_from
 
-          -- The start that is known, if it is.
           pub order_known : {I : Type 0} (index : I → ℕ) → ((j : I) → 1 ≤ index j) → (first : ℕ) (found : List ℕ) (known : Option I) → AreStarts (link_map_in number old.slots) first found
               → IfSome known (λ j. first ≤ k) → IfSome known (λ j. index j ≡ slice_index found (k - first)) → IfSome known (λ j. IsStart (link_map_in number mid.slots) i (index j))
           order_known index least first found None at behind reads = tt
@@ -421,7 +399,6 @@ module _ {Gen K T F P : Type 0} (number : K → Option ℕ) (g : F → P → P �
             pub order_can : (done : List ℕ) × (c : Chain) × CanNumber number was_stored.slots start count done c
             order_can = (all_items o.done, the_next.first, can_number_here)
 
-            -- The next chain is numbered, after some reads ahead.
             pub order_continues : (a b d : Arena Gen (RawLink K T)) (next : F) (new : DetachedView Gen (RawLink K T)) (more reads on left : ℕ)
                 → IsWork after a 0 (1 + reads)
                 → left + (reads + on) ≤ credit + (more - count)
@@ -461,7 +438,6 @@ module _ {Gen K T F P : Type 0} (number : K → Option ℕ) (g : F → P → P �
                 place : length (all_items o.done) + 1 ≡ 1 + length (all_items o.done)
                 place = omega arith
 
-                -- The place of a link in its chain is its place among all links.
                 in_all : (j : ℕ) → IsMember (items the_next.first) j → place_from (length (all_items o.done) + 1) (items the_next.first) j ≡ place_in (all_items o.chains) j
                 in_all j h =
                     ap (λ (n : ℕ). place_from n (items the_next.first) j) place

@@ -18,13 +18,11 @@ module _ {X : Type 0} where
   length-front (suc n) [] front = let none : false ≡ true = front 0 (omega arith) in absurd (cc)
   length-front (suc n) (x ∷ xs) front = let rest = length-front n xs (λ k below. front (suc k) (omega (arith, below))) in omega (arith, rest)
 
-  -- Trimming leaves exactly n slots.
   pub packed-length : (n : ℕ) (xs : List (Option X)) → IsPacked xs n → length (without_free_end xs) ≡ n
   packed-length n xs packed = ap length (packed-trimmed n xs packed) ∙ length-take-le n xs (length-front n xs (λ k below. packed.taken (suc k) (omega arith) (omega (arith, below))))
 
 module _ {E : Type 0} (goal : E → Option ℕ) (Settles : E → E → Type 0) (n : ℕ) (old new : List (Option E))
     (front : AreMovedToFront goal old n) (moved : HaveMoved goal Settles (slot_at old) (slot_at new)) where
-  -- There is an entry at each index up to n, and at none above.
   stored_in_front : (k : ℕ) → k < n → (e : E) × (slice_index_or new k None ≡ Some e)
   stored_in_front k below =
       let from = front.each (suc k) (omega arith) (omega arith) in
@@ -41,7 +39,6 @@ module _ {E : Type 0} (goal : E → Option ℕ) (Settles : E → E → Type 0) (
           let few : suc k ≤ n = front.few originals.from (suc k) originals.entry originals.waited in
           absurd (omega arith)
 
-  -- The entries are packed.
   pub front-packed : IsPacked new n
   front-packed = record { taken = taken; free = free }
     where
@@ -54,11 +51,9 @@ module _ {E : Type 0} (goal : E → Option ℕ) (Settles : E → E → Type 0) (
       free (suc k) above = free_behind k (omega (arith, above))
 
 module _ {Gen K T : Type 0} (number : K → Option ℕ) (g : Gen) where
-  -- What is seen of an entry that is settled.
   pub settled_viewed : (e f : Gen × RawLink K T) → Settles number g e f → pair_view number f ≡ (g, link_view number e.1)
   settled_viewed e f s = ap₂ (λ (h : Gen) (l : LinkView T). (h, l)) s.generation (ap (link_view number) s.rest)
 
-  -- An entry at its destination is seen as before, but for the generation.
   pub moved_viewed : (old new : List (Option (Gen × RawLink K T))) → HaveMoved (destination_of number) (Settles number g) (slot_at old) (slot_at new) → (i d : ℕ) (e : Gen × RawLink K T)
       → HasDestination (destination_of number) (slot_at old) i e d → slot_at (map (option_map (pair_view number)) new) d ≡ Some (g, link_view number e.1)
   moved_viewed old new moved i d e w =

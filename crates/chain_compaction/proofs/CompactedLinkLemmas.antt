@@ -57,7 +57,6 @@ module _ {X : Type 0} where
   slot_at-trimmed slots (suc k) = without_free_end-at slots k
 
 module _ {Gen K T : Type 0} (number : K → Option ℕ) where
-  -- The link map of an arena is the link map of its slots.
   pub link_map-slots : (a : Arena Gen (RawLink K T)) → link_map (links_view number a) ≡ link_map_in number a.slots
   link_map-slots a = fun_ext (λ i. ap (option_map interlinks_of) (entry_at-links_view number a i) ∙ twice (slot_at a.slots i))
     where
@@ -68,11 +67,9 @@ module _ {Gen K T : Type 0} (number : K → Option ℕ) where
   link_map-trimmed : (slots : List (Option (Gen × RawLink K T))) → link_map_in number (without_free_end slots) ≡ link_map_in number slots
   link_map-trimmed slots = fun_ext (λ i. ap (option_map (body_interlinks number)) (slot_at-trimmed slots i))
 
-  -- Links without destinations have none in the slots that are given back.
   pub returned_at_rest : (detached slots : List (Option (Gen × RawLink K T))) → slots ≡ without_free_end detached → AreAtRest number detached → AreAtRest number slots
   returned_at_rest detached slots is rest = record { none = λ i. ap (λ s. destination_at number s i) is ∙ (ap (option_and_then (destination_of number)) (slot_at-trimmed detached i) ∙ rest.none i) }
 
--- The values of an arena whose slots are given back.
 values-returned : {Gen K T : Type 0} (greatest : ℕ) (a : Arena Gen (RawLink K T)) (detached : DetachedView Gen (RawLink K T)) → with_each held_in (arena_after_return greatest a detached) ≡ arena_after_return greatest (with_each held_in a) (detached_values detached)
 values-returned greatest a detached =
     let slots = without_free_end-map (on_value held_in) detached.slots in
@@ -85,7 +82,6 @@ module _ {F P T Gen K : Type 0} (g : Mut F (P × (MutBor T × (P × Unit {0}))) 
       (is_start : start ≡ arena_without_slots maximum old) (is_before : before ≡ detached_of old) (is_new : new ≡ arena_after_return greatest finish after)
       (closed : AreClosed generation (detached_values before) (detached_values after)) (visits : VisitsAll g key f (entries_from 1 (detached_values before).slots) (entries_from 1 (detached_values after).slots))
       (work : IsWork start finish (length (entries_from 1 (detached_values before).slots)) (length before.slots + 3 * length (entries_from 1 (detached_values before).slots))) where
-    -- The old values alone.
     abbrev old_values : Arena Gen T
     old_values = with_each held_in old
 
@@ -100,7 +96,6 @@ module _ {F P T Gen K : Type 0} (g : Mut F (P × (MutBor T × (P × Unit {0}))) 
         gathers g key f greatest maximum generation old_values (with_each held_in start) (with_totals (with_each held_in start) moved_count (length (detached_values before).slots + moved_count)) like
         (detached_values before) (detached_values after) (ap (λ (a : Arena Gen (RawLink K T)). with_each held_in a) is_start) (ap (λ (h : DetachedView Gen (RawLink K T)). detached_values h) is_before) same_capacity counter closed visits refl refl
 
-    -- The new values are as without interlinks, but for the touches.
     values_now : with_each held_in new ≡ record like { touched = old.touched + work.touches }
     values_now =
         ap (λ (a : Arena Gen (RawLink K T)). with_each held_in a) (is_new ∙ ap (λ (a : Arena Gen (RawLink K T)). arena_after_return greatest a after) work.arena)

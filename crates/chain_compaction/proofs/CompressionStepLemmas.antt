@@ -34,7 +34,6 @@ module _ {F P Gen K T : Type 0} (g : Mut F (P × (MutBor T × (P × Unit {0}))) 
     within : k < length (slot_values old.slots)
     within = let long : length (slot_values old.slots) ≡ length old.slots = length-map old.slots (option_map (on_value held_in)) in omega (arith, inside, long)
 
-    -- Both slots of a move exist.
     long : length now.slots ≡ length old.slots
     long =
         sym (length-map now.slots (option_map (on_value held_in)))
@@ -46,7 +45,6 @@ module _ {F P Gen K T : Type 0} (g : Mut F (P × (MutBor T × (P × Unit {0}))) 
     pub to_within : (to : ℕ) → to ≡ count + 1 → to ≤ length now.slots
     to_within to at_to = omega (arith, at_to, closing.passed, inside, long)
 
-    -- The slot that the link is moved to is free, or its own.
     pub free_to : (to : ℕ) → to ≡ count + 1 → to ≢ from → slot_at now.slots to ≡ None
     free_to to at_to differs =
         by (slot_at now.slots to)
@@ -87,7 +85,6 @@ module _ {F P Gen K T : Type 0} (g : Mut F (P × (MutBor T × (P × Unit {0}))) 
       is_placed : slot_values mid.slots ≡ (with_placed_entry (detached_values now) from to generation).slots
       is_placed = ap (λ (h : DetachedView Gen T). h.slots) values
 
-      -- The link is at `to`.
       pub stored_there : None ≡ option_map (λ (e : Gen × RawLink K T). e.1) (slot_at mid.slots to) → ⊥
       stored_there none =
           brought_stored g key generation first (slot_values old.slots) k count f (slot_values now.slots) closing within from to was (slot_values mid.slots) at_from at_to view_after is_placed

@@ -40,20 +40,17 @@ module _ {Gen X Y : Type 0} (f : Gen × X → Y) (slots : List (Option (Gen × X
 -- An occupied slot was written.
 module _ {Gen K T : Type 0} (detached new : DetachedView Gen (RawLink K T)) (n : ℕ) (l w : RawLink K T)
     (stored : Some l ≡ option_map (λ (e : Gen × RawLink K T). e.1) (slot_at detached.slots n)) (wrote : new ≡ detached_with_value detached n w) where
-  -- A write that keeps the value keeps all values.
   pub values-kept : w.t ≡ l.t → detached_values new ≡ detached_values detached
   values-kept same =
       let slots = kept_map (on_value held_in) detached.slots n l w stored (λ g i. (g, same i)) in
       ap (λ (h : DetachedView Gen (RawLink K T)). detached_values h) wrote ∙ (λ i. record (detached_values detached) { slots = slots i })
 
-  -- A write that keeps the interlinks keeps the link map.
   pub links-kept : (number : K → Option ℕ) → interlinks_in (link_view number w) ≡ interlinks_in (link_view number l)
       → link_map_in number new.slots ≡ link_map_in number detached.slots
   links-kept number same = ap (λ (h : DetachedView Gen (RawLink K T)). link_map_in number h.slots) wrote ∙ fun_ext (λ i.
       sym (slot_at-map (body_interlinks number) (detached_with_value detached n w).slots i)
       ∙ (ap (λ slots. slot_at slots i) (kept_map (body_interlinks number) detached.slots n l w stored (λ g. same)) ∙ slot_at-map (body_interlinks number) detached.slots i))
 
-  -- A write of a value is a write among the values.
   pub values-written : detached_values new ≡ detached_with_value (detached_values detached) n w.t
   values-written =
       let slots =
@@ -66,7 +63,6 @@ module _ {Gen K T : Type 0} (detached new : DetachedView Gen (RawLink K T)) (n :
       at None = refl
       at (Some e) = refl
 
-  -- The link map after a write of interlinks.
   links-changed : (number : K → Option ℕ) (change : Interlinks → Interlinks) → interlinks_in (link_view number w) ≡ change (interlinks_in (link_view number l))
       → (i : ℕ) → link_map_in number (detached_with_value detached n w).slots i ≡ (if i == n then option_map change (link_map_in number detached.slots i) else link_map_in number detached.slots i)
   links-changed number change is i = by (ℕ_discrete i n)
@@ -83,13 +79,11 @@ module _ {Gen K T : Type 0} (detached new : DetachedView Gen (RawLink K T)) (n :
       by (no differs) =
           ap (option_map (body_interlinks number)) (slot_at-changed detached.slots n i (option_map (λ (e : Gen × RawLink K T). (e.0, w))) refl ∙ if_other i n _ _ differs) ∙ sym (if_other i n _ _ differs)
 
-  -- `next` of the link was set.
   pub links-with_next_at : (number : K → Option ℕ) (next : Option ℕ) → w ≡ record l { next = w.next } → number w.next ≡ next
       → link_map_in number new.slots ≡ with_next_at (link_map_in number detached.slots) (Some n) next
   links-with_next_at number next rest named =
       ap (λ (h : DetachedView Gen (RawLink K T)). link_map_in number h.slots) wrote ∙ fun_ext (links-changed number (with_next next) (λ i. record { prev = number (rest i).prev; next = named i }))
 
-  -- `prev` of the link was set.
   pub links-with_prev_at : (number : K → Option ℕ) (prev : Option ℕ) → w ≡ record l { prev = w.prev } → number w.prev ≡ prev
       → link_map_in number new.slots ≡ with_prev_at (link_map_in number detached.slots) (Some n) prev
   links-with_prev_at number prev rest named =
@@ -121,7 +115,6 @@ module _ {Gen K T : Type 0} (number : K → Option ℕ) (slots : List (Option (G
   with_prev_at-unknown prev = fun_ext (unknown (with_prev prev))
 
 module _ {Gen K T : Type 0} (detached : DetachedView Gen (RawLink K T)) (from to : ℕ) (generation : Gen) where
-  -- A placement places the value.
   pub values-with_placed_entry : detached_values (with_placed_entry detached from to generation) ≡ with_placed_entry (detached_values detached) from to generation
   values-with_placed_entry =
       let slots =
@@ -139,7 +132,6 @@ module _ {Gen K T : Type 0} (detached : DetachedView Gen (RawLink K T)) (from to
       at None = refl
       at (Some e) = refl
 
-  -- A placement in a free slot, or its own, moves a link without updating its neighbors.
   pub links-with_placed_entry : (number : K → Option ℕ) → 1 ≤ from → from ≤ length detached.slots → 1 ≤ to → to ≤ length detached.slots
       → (to ≡ from) ⊎ (link_map_in number detached.slots to ≡ None) → link_map_in number (with_placed_entry detached from to generation).slots ≡ with_link_placed (link_map_in number detached.slots) from to
   links-with_placed_entry number first within first_to within_to free = fun_ext (λ j. by j (ℕ_discrete j to) (ℕ_discrete j from))
@@ -199,7 +191,6 @@ module _ {Gen K T : Type 0} (number : K → Option ℕ) (old was_read brought kn
       ∙ (ap₂ (λ (m : LinkMap) (o : Option ℕ). with_prev_at m o (Some to)) (first_known ∙ ap₂ (λ (m : LinkMap) (o : Option ℕ). with_next_at m o (Some to)) is_put names_before) names_after
       ∙ neighbors_determine_a_move link_map from to agrees can)
 
--- A read that reports a generation found an entry.
 pub entry-view_after : {Gen X : Type 0} (old was_read : DetachedView Gen X) (n : ℕ) (r : Option Gen) (was : Gen) → was_read ≡ old → r ≡ Some was → r ≡ option_map (λ (e : Gen × X). e.0) (slot_at old.slots n)
     → is_some (slot_at was_read.slots n) ≡ true
 entry-view_after {Gen} {X} old was_read n r was same some known = ap (λ (h : DetachedView Gen X). is_some (slot_at h.slots n)) same ∙ by (slot_at old.slots n) (sym some ∙ known)
@@ -208,10 +199,7 @@ entry-view_after {Gen} {X} old was_read n r was same some known = ap (λ (h : De
     by None is = absurd (let both = is in cc)
     by (Some e) is = refl
 
--- ---- the work
-
 module _ {Gen T : Type 0} where
-  -- No work.
   pub work-none : (a : Arena Gen T) (most : ℕ) → IsWork a a 0 most
   work-none a most = record {
     touches = 0;
@@ -223,7 +211,6 @@ module _ {Gen T : Type 0} where
         );
   }
 
-  -- The work of one touch.
   pub work-touched : (a b : Arena Gen T) → b ≡ with_touch a → IsWork a b 0 1
   work-touched a b is = record {
     touches = 1;
@@ -231,7 +218,6 @@ module _ {Gen T : Type 0} where
     arena = (let placements : a.placed ≡ a.placed + 0 = omega arith in is ∙ (λ i. record a { placed = placements i; touched = a.touched + 1 }));
   }
 
-  -- The work of one placement.
   pub work-with_placed_entry : (a b : Arena Gen T) → b ≡ with_placement a → IsWork a b 1 0
   work-with_placed_entry a b is = record {
     touches = 0;
@@ -239,7 +225,6 @@ module _ {Gen T : Type 0} where
     arena = (let touches : a.touched ≡ a.touched + 0 = omega arith in is ∙ (λ i. record a { placed = a.placed + 1; touched = touches i }));
   }
 
-  -- The work of two parts together.
   pub work-more : {a b c : Arena Gen T} {p q m n : ℕ} → IsWork a b p m → IsWork b c q n → (o r : ℕ) → p + q ≡ o → m + n ≤ r → IsWork a c o r
   work-more {a} {b} {c} {p} {q} {m} {n} first second o r placements most = record {
     touches = first.touches + second.touches;
@@ -251,15 +236,12 @@ module _ {Gen T : Type 0} where
         );
   }
 
-  -- A higher bound on the touches.
   pub work-few : {a b : Arena Gen T} {p m : ℕ} → IsWork a b p m → (n : ℕ) → m ≤ n → IsWork a b p n
   work-few work n most = record { touches = work.touches; few = omega (arith, work.few, most); arena = work.arena }
 
-  -- The work of a read, a placement, and two neighbors updated.
   pub work-moved : {a b c d e : Arena Gen T} → b ≡ with_touch a → c ≡ with_placement b → IsWork c d 0 1 → IsWork d e 0 1 → IsWork a e 1 3
   work-moved {a} {b} {c} was_read with_placed_entry first second =
       work-more (work-more (work-more (work-touched a b was_read) (work-with_placed_entry b c with_placed_entry) 1 1 refl (omega arith)) first 1 2 refl (omega arith)) second 1 3 refl (omega arith)
 
-  -- The work of two touches.
   pub work-twice : (a b c : Arena Gen T) → b ≡ with_touch a → c ≡ with_touch b → IsWork a c 0 2
   work-twice a b c one two = work-more (work-touched a b one) (work-touched b c two) 0 2 refl (omega arith)

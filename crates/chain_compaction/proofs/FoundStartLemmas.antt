@@ -13,7 +13,6 @@ use Rattle.chain_compaction.specs.DetachedLinks.{link_map_in}
 use Rattle.chain_compaction.specs.Destinations.{is_fresh}
 use Rattle.chain_compaction.specs.FoundStarts.{AreStarts, IsFreshNear, AreFreshNear, IsWalkBack, AreWalksBack, AreStartsOfFresh}
 
--- Each number in a list of zeros, and behind its end, is 0.
 pub zeros : (n d : ℕ) → slice_index (replicate n 0) d ≡ 0
 zeros n d = by (dec_lt d n)
   where
@@ -22,29 +21,23 @@ zeros n d = by (dec_lt d n)
     by (no behind) = get_or-eq_default (replicate n 0) 0 (omega (arith, length-replicate {A = ℕ} n 0, behind))
 
 module _ {Gen K T : Type 0} (number : K → Option ℕ) (slots : List (Option (Gen × RawLink K T))) where
-  -- A walk back begins at its link.
   pub walk_back_begins : (start : ℕ) → IsWalkBack number slots start start
   walk_back_begins start = (0, back_begins (link_map_in number slots) (start + 1))
 
-  -- A walk back goes on to the previous link, unless it began there.
   pub walk_back_continues : (start k p : ℕ) → IsWalkBack number slots start k → prev_of (link_map_in number slots) (k + 1) ≡ Some (p + 1) → p ≢ start → IsWalkBack number slots start p
   walk_back_continues start k p walk e differs = (walk.0 + 1, back_continues (link_map_in number slots) (start + 1) walk.0 (k + 1) (p + 1) walk.1 e (λ same. differs (omega (arith, same))))
 
-  -- A walk back ends where it began, in a cyclic chain.
   pub walk_back_wraps : (start k p : ℕ) → IsWalkBack number slots start k → prev_of (link_map_in number slots) (k + 1) ≡ Some (p + 1) → p ≡ start → IsStart (link_map_in number slots) (start + 1) (p + 1)
   walk_back_wraps start k p walk e same =
       subst (λ (n : ℕ). IsStart (link_map_in number slots) (start + 1) (n + 1)) (sym same)
       (back_wraps_around (link_map_in number slots) (start + 1) walk.0 (k + 1) walk.1 (e ∙ ap (λ (n : ℕ). Some (n + 1)) same))
 
-  -- A walk back ends in a linear chain.
   pub walk_back_ends : (start k : ℕ) → IsWalkBack number slots start k → prev_of (link_map_in number slots) (k + 1) ≡ None → IsStart (link_map_in number slots) (start + 1) (k + 1)
   walk_back_ends start k walk e = back_ends (link_map_in number slots) (start + 1) walk.0 (k + 1) walk.1 e
 
-  -- No start is found yet.
   pub starts_none : (first : ℕ) (starts : List ℕ) → ((d : ℕ) → slice_index starts d ≡ 0) → AreStartsOfFresh number slots first starts
   starts_none first starts none = (λ d some. absurd (some (none d)), λ d some. absurd (some (none d)))
 
-  -- One more start is found.
   pub starts_more : (first k n : ℕ) (starts : List ℕ) → IsFreshNear number slots first k → IsStart (link_map_in number slots) (k + 1) n → length starts ≡ 64 → AreStartsOfFresh number slots first starts
       → AreStartsOfFresh number slots first (slice_set starts (k - first) n)
   starts_more first k n starts near start long found = (λ d some. (by d some (ℕ_discrete d (k - first))).0, λ d some. (by d some (ℕ_discrete d (k - first))).1)
@@ -66,11 +59,9 @@ module _ {Gen K T : Type 0} (number : K → Option ℕ) (slots : List (Option (G
           (subst (λ (m : ℕ). IsStart (link_map_in number slots) (first + d + 1) m) (sym is) (found.0 d before), found.1 d before)
 
   module _ (greatest first : ℕ) where
-    -- All walks are at their links.
     pub walks_begin : (links : List ℕ) (count : ℕ) → AreFreshNear number slots first links count → ((p : ℕ) → p < count → slice_index links p < greatest) → AreWalksBack number greatest slots first links links count
     walks_begin links count fresh below p few = (fresh p few, walk_back_begins (slice_index links p), below p few)
 
-    -- One of the walks goes on.
     pub walks_step : (links now : List ℕ) (count t k : ℕ) → t < length now → IsWalkBack number slots (slice_index links t) k → k < greatest → AreWalksBack number greatest slots first links now count
         → AreWalksBack number greatest slots first links (slice_set now t k) count
     walks_step links now count t k inside walk low all p few = by (ℕ_discrete p t)
@@ -84,7 +75,6 @@ module _ {Gen K T : Type 0} (number : K → Option ℕ) (slots : List (Option (G
             let is : slice_index now p ≡ slice_index (slice_set now t k) p = sym (get_or-set_other now t p k 0 differs) in
             subst (λ (j : ℕ). IsFreshNear number slots first (slice_index links p) × IsWalkBack number slots (slice_index links p) j × (j < greatest)) is (all p few)
 
-    -- One of the walks is removed: the last one takes its place.
     pub walks_drop : (links now : List ℕ) (last t : ℕ) → t < length links → t < length now → AreWalksBack number greatest slots first links now (last + 1)
         → AreWalksBack number greatest slots first (slice_set links t (slice_index links last)) (slice_set now t (slice_index now last)) last
     walks_drop links now last t inside also all p few = by (ℕ_discrete p t)
@@ -108,7 +98,6 @@ module _ {Gen K T : Type 0} (number : K → Option ℕ) (slots : List (Option (G
             subst (λ (l : ℕ). At l (slice_index (slice_set now t (slice_index now last)) p)) (kept links differs)
             (subst (λ (j : ℕ). At (slice_index links p) j) (kept now differs) (all p there))
 
-  -- One more link without a destination is listed.
   pub fresh_added : (first : ℕ) (positions : List ℕ) (count k : ℕ) → count < length positions → IsFreshNear number slots first k → AreFreshNear number slots first positions count
       → AreFreshNear number slots first (slice_set positions count k) (count + 1)
   fresh_added first positions count k inside near all p few = by (ℕ_discrete p count)

@@ -28,11 +28,9 @@ module _ {Gen T : Type 0} (slots : List (Option (Gen × T))) (k : ℕ) (below : 
       ap (λ (n : ℕ). indexes_to n slots) next
       ∙ (ap (λ es. map index_of es) (entries_from-take slots 1 k (k + 1) below (omega arith)) ∙ ap (λ (e : Option (Gen × T)). map index_of (entries_from 1 (take k slots) ++ entry_list (k + 1) e)) is)
 
-  -- A free slot is passed.
   indexes-passed : slice_index_or slots k None ≡ None → indexes_to (k + 1) slots ≡ indexes_to k slots
   indexes-passed none = indexes-next None none ∙ ap (λ es. map index_of es) (append-nil (entries_from 1 (take k slots)))
 
-  -- An entry is reached.
   indexes-met : (e : Gen × T) → slice_index_or slots k None ≡ Some e → indexes_to (k + 1) slots ≡ indexes_to k slots ++ (k + 1) ∷ []
   indexes-met e some = indexes-next (Some e) some ∙ map-append index_of (entries_from 1 (take k slots)) (((k + 1, e.0), e.1) ∷ [])
 
@@ -59,7 +57,6 @@ module _ {Gen K T : Type 0} (number : K → Option ℕ) (slots : List (Option (G
   next_index : suc k ≡ k + 1
   next_index = omega arith
 
-  -- There is no link where there is no value.
   none-linked : slice_index_or (slot_values slots) k None ≡ None → link_map_in number slots (k + 1) ≡ None
   none-linked none = sym (ap (link_map_in number slots) next_index) ∙ by (slice_index_or slots k None) (sym at_slot ∙ none)
     where
@@ -67,7 +64,6 @@ module _ {Gen K T : Type 0} (number : K → Option ℕ) (slots : List (Option (G
       by None is = refl
       by (Some e) is = cc
 
-  -- There is a link where there is a value.
   some-valid : (e : Gen × T) → slice_index_or (slot_values slots) k None ≡ Some e → HasLink (link_map_in number slots) (k + 1)
   some-valid e some = subst (λ (i : ℕ). HasLink (link_map_in number slots) i) next_index (by (slice_index_or slots k None) refl)
     where
@@ -81,7 +77,6 @@ pub record AreGathered {Gen K T : Type 0} (number : K → Option ℕ) (old now :
   pub counted : length (indexes_to k (slot_values old)) ≡ count
 
 module _ {Gen K T : Type 0} (number : K → Option ℕ) (old : List (Option (Gen × RawLink K T))) (agrees : IsWellLinked (link_map_in number old)) where
-  -- No slot is passed yet.
   pub gathered_begins : HasLinksWithin (link_map_in number old) (length old) → AreGathered number old old 0 0
   gathered_begins within = record { gathering = gathering_begins (link_map_in number old) (length old) agrees within; counted = refl }
 
@@ -89,7 +84,6 @@ module _ {Gen K T : Type 0} (number : K → Option ℕ) (old : List (Option (Gen
     inside : k < length (slot_values old)
     inside = omega (arith, below, length-map old (option_map (on_value held_in)))
 
-    -- A free slot is passed.
     pub gathered_skips : slice_index_or (slot_values old) k None ≡ None → AreGathered number old now (k + 1) count
     gathered_skips none =
         let same = indexes-passed (slot_values old) k inside none in
@@ -127,7 +121,6 @@ module _ {Gen K T : Type 0} (number : K → Option ℕ) (old : List (Option (Gen
             counted = ap (λ done. length done) met ∙ (length-append (indexes_to k (slot_values old)) ((k + 1) ∷ []) ∙ ap (λ (n : ℕ). n + 1) c.counted);
           }
 
-  -- In the end the links are renamed by the order of their indexes.
   pub gathered_ends : (now : List (Option (Gen × RawLink K T))) (k count : ℕ) → AreGathered number old now k count → k ≡ length old → HasLinksWithin (link_map_in number old) (length old)
       → IsRenaming (place_in (indexes_in (slot_values old))) (link_map_in number old) (link_map_in number now)
   gathered_ends now k count c all within =

@@ -54,7 +54,6 @@ module _ {P T S Inx Gen Word : Type 0} (old new : Compactor P T S Inx Gen Word) 
     counts = counts_touch old new kept.1.0 kept.1.1 kept.1.2 kept.1.3;
   }
 
--- A link that is overwritten by one with the same destination leaves links without destinations so.
 pub overwritten_rests : {P K T S Inx Gen Word : Type 0} (number : K → Option ℕ) (old new : Compactor P (RawLink K T) S Inx Gen Word) (i : ℕ) (link w : RawLink K T) → IsOverwritten old new i link w
     → number w.destination ≡ number link.destination → StayAtRest number old.detached.slots new.detached.slots
 overwritten_rests number old new i link w wrote same rest = subst (λ detached. AreAtRest number detached.slots) (sym wrote.detached) (written_at_rest number old.detached.slots i link w (sym wrote.stored) same rest)

@@ -30,11 +30,9 @@ module _ {Gen K T : Type 0} (now new : DetachedView Gen (RawLink K T)) (i : ℕ)
   written_at : (j : ℕ) → slot_at new.slots j ≡ (if j == i then written (slot_at now.slots j) else slot_at now.slots j)
   written_at j = ap (λ (h : DetachedView Gen (RawLink K T)). slot_at h.slots j) wrote ∙ slot_at-changed now.slots i j written refl
 
-  -- The new link is at i.
   pub written_there : slot_at new.slots i ≡ Some (e.0, w)
   written_there = written_at i ∙ (if_same i i _ _ refl ∙ ap written stored)
 
-  -- All other slots are unchanged.
   pub written_other : (j : ℕ) → j ≢ i → slot_at new.slots j ≡ slot_at now.slots j
   written_other j differs = written_at j ∙ if_other j i _ _ differs
 
@@ -47,7 +45,6 @@ module _ {Gen K T : Type 0} (now new : DetachedView Gen (RawLink K T)) (i : ℕ)
   pub written_maximum : new.maximum ≡ now.maximum
   written_maximum = ap (λ (h : DetachedView Gen (RawLink K T)). h.maximum) wrote
 
-  -- The destinations of all other links are unchanged.
   pub destination_written : (number : K → Option ℕ) (j : ℕ) → j ≢ i → destination_at number new.slots j ≡ destination_at number now.slots j
   destination_written number j differs = ap (option_and_then (destination_of number)) (written_other j differs)
 
@@ -59,16 +56,13 @@ module _ {Gen K T : Type 0} (number : K → Option ℕ) where
   abbrev pub viewed_at : DetachedView Gen (RawLink K T) → ℕ → Option (Gen × LinkView T)
   viewed_at h j = option_map (pair_view number) (slot_at h.slots j)
 
-  -- No link is overwritten yet.
   pub relinked_none : (becomes : ℕ → LinkView T → LinkView T) (h : DetachedView Gen (RawLink K T)) → AreRelinked number becomes h h []
   relinked_none becomes h = record { there = λ j has. absurd has; stay = λ j out. refl; long = refl; capacity = refl; maximum = refl }
 
   module _ (becomes : ℕ → LinkView T → LinkView T) (old now : DetachedView Gen (RawLink K T)) (xs : List ℕ) (was : AreRelinked number becomes old now xs) where
-    -- The links are unchanged, or changed alike.
     pub relinked_as : (instead : ℕ → LinkView T → LinkView T) → ((j : ℕ) → IsMember xs j → option_map (on_value (becomes j)) (viewed_at old j) ≡ option_map (on_value (instead j)) (viewed_at old j)) → AreRelinked number instead old now xs
     relinked_as instead same = record { there = λ j h. was.there j h ∙ same j h; stay = was.stay; long = was.long; capacity = was.capacity; maximum = was.maximum }
 
-    -- All pointers are unchanged.
     pub relinked_ptr : ptr_at (slot_at now.slots) ≡ ptr_at (slot_at old.slots)
     relinked_ptr = fun_ext (λ i. by i (IsMember-or_not xs i))
       where
@@ -86,7 +80,6 @@ module _ {Gen K T : Type 0} (number : K → Option ℕ) where
         by i (inr out) = ap (option_map {U = ℕ × Gen} (λ (e : Gen × RawLink K T). (i, e.0))) (was.stay i out)
 
     module _ (new : DetachedView Gen (RawLink K T)) (i : ℕ) (e : Gen × RawLink K T) (w : RawLink K T) (stored : slot_at now.slots i ≡ Some e) (wrote : new ≡ detached_with_value now i w) where
-      -- One more link is overwritten.
       pub relinked_more : (IsMember xs i → ⊥) → link_view number w ≡ becomes i (link_view number e.1) → AreRelinked number becomes old new (xs ++ i ∷ [])
       relinked_more fresh same = record {
         there = λ j h. there j h (ℕ_discrete j i);
@@ -110,7 +103,6 @@ module _ {Gen K T : Type 0} (number : K → Option ℕ) where
           there j h (yes s) = subst (λ (n : ℕ). viewed_at new n ≡ option_map (on_value (becomes n)) (viewed_at old n)) (sym s) here
           there j h (no differs) = ap (option_map (pair_view number)) (written_other now new i e w stored wrote j differs) ∙ was.there j (before j differs (IsMember-parts xs (i ∷ []) j h))
 
-      -- One of the links is overwritten again.
       pub relinked_over : IsMember xs i → (instead : ℕ → LinkView T → LinkView T) → ((j : ℕ) → j ≢ i → becomes j ≡ instead j) → viewed_as e.0 (link_view number w) ≡ option_map (on_value (instead i)) (viewed_at old i) → AreRelinked number instead old new xs
       relinked_over has instead others here = record {
         there = λ j h. there j h (ℕ_discrete j i);
@@ -126,7 +118,6 @@ module _ {Gen K T : Type 0} (number : K → Option ℕ) where
               ap (option_map (pair_view number)) (written_other now new i e w stored wrote j differs)
               ∙ (was.there j h ∙ ap (λ (f : LinkView T → LinkView T). option_map (on_value f) (viewed_at old j)) (others j differs))
 
-    -- Other links are overwritten after these.
     pub relinked_then : (new : DetachedView Gen (RawLink K T)) (ys : List ℕ) → AreRelinked number becomes now new ys → ((j : ℕ) → IsMember ys j → IsMember xs j → ⊥) → AreRelinked number becomes old new (xs ++ ys)
     relinked_then new ys more apart = record {
       there = λ j h. there j (IsMember-parts xs ys j h);
@@ -140,7 +131,6 @@ module _ {Gen K T : Type 0} (number : K → Option ℕ) where
         there j (inl h) = ap (option_map (pair_view number)) (more.stay j (λ m. apart j m h)) ∙ was.there j h
         there j (inr h) = more.there j h ∙ ap (λ (o : Option (Gen × RawLink K T)). option_map (on_value (becomes j)) (option_map (pair_view number) o)) (was.stay j (λ m. apart j h m))
 
-  -- If all links are renamed, so is the whole view.
   pub all_relinked : (to : ℕ → Option ℕ) (old now : DetachedView Gen (RawLink K T)) (xs : List ℕ) → AreRelinked number (λ _. renamed_link to) old now xs → ((j : ℕ) (e : Gen × RawLink K T) → slot_at old.slots j ≡ Some e → IsMember xs j)
       → detached_view number now ≡ renamed_detached to (detached_view number old)
   all_relinked to old now xs was each = λ j. record { slots = slots j; stack_capacity = was.capacity j; maximum = was.maximum j }

@@ -4,11 +4,9 @@ use Rattle.std.specs.Option.{option_map}
 use Rattle.chain_laws.specs.Moves.{moved_index}
 use Rattle.chain_laws.proofs.InterlinkLemmas.Inverses.{if_same, if_other}
 
--- Two indexes that a comparison finds different are different.
 pub differ : (known is : Bool) → known ≡ is → known ≡ false → is ≡ true → ⊥
 differ known is by is_false on = cc
 
--- Two indexes that a comparison finds the same are the same.
 pub found_same : (known is : Bool) → known ≡ is → known ≡ true → is ≡ true
 found_same known is by on = sym by ∙ on
 

@@ -8,7 +8,6 @@ use Rattle.chain_links.specs.declared.links.RawLink.{RawLink}
 use Rattle.chain_compaction.specs.DetachedLinks.{detached_values, link_map_in, with_neighbor}
 use Rattle.chain_compaction.proofs.DetachedLinkLemmas.{values-kept, links-with_next_at, links-with_prev_at, with_next_at-unknown, with_prev_at-unknown}
 
--- No index is given.
 pub states_none : {I : Type 0} (index : I → ℕ) (link_map : LinkMap) (before : Bool) (named : Option I) (target : Option ℕ) → named ≡ None → link_map ≡ with_neighbor before link_map (option_map index named) target
 states_none {I} index link_map before named target is = by before ∙ (λ j. with_neighbor before link_map (option_map index (sym is j)) target)
   where

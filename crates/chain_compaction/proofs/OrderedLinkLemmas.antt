@@ -27,8 +27,6 @@ use Rattle.chain_compaction.proofs.ChainDestinationLemmas.{reports_one, reports_
 use Rattle.chain_compaction.proofs.DetachedLinkLemmas.{work-few}
 use Rattle.chain_compaction.proofs.SlotCountLemmas.{slot_at-same, slot_at-other, stored-within}
 
--- ---- the loop over all slots
-
 -- The links up to index k have the generation, and nothing else changed.
 pub record AreRenewed {Gen K T : Type 0} (generation : Gen) (old now : DetachedView Gen (RawLink K T)) (k : ℕ) : Type 0 where
   pub there : (j : ℕ) → j ≤ k → slot_at now.slots j ≡ option_map (λ e. (generation, e.1)) (slot_at old.slots j)
@@ -45,7 +43,6 @@ module _ {Gen K T : Type 0} (generation : Gen) (old : DetachedView Gen (RawLink 
       first zero low = refl
       first (suc k) low = absurd (omega (arith, low))
 
-  -- One more link has the generation.
   pub renewed_continues : (now read placed : DetachedView Gen (RawLink K T)) (k i : ℕ) → i ≡ k + 1 → k < length old.slots → AreRenewed generation old now k → read ≡ now
       → placed ≡ with_placed_entry read i i generation → AreRenewed generation old placed (k + 1)
   renewed_continues now read placed k i is inside r same wrote = record {
@@ -84,7 +81,6 @@ module _ {Gen K T : Type 0} (generation : Gen) (old : DetachedView Gen (RawLink 
       there j low (yes e) = ap (slot_at placed.slots) e ∙ (own ∙ sym (ap (λ (n : ℕ). option_map (λ (e : Gen × RawLink K T). (generation, e.1)) (slot_at old.slots n)) e))
       there j low (no differs) = other j differs ∙ r.there j (omega (arith, low, differs, is))
 
--- The generation that was read is the first one.
 pub renewed_read : {Gen K T : Type 0} (generation : Gen) (old now : DetachedView Gen (RawLink K T)) (k i : ℕ) (r : Option Gen) (was : Gen) → i ≡ k + 1 → AreRenewed generation old now k
     → r ≡ Some was → r ≡ option_map (λ (e : Gen × RawLink K T). e.0) (slot_at now.slots i) → ◌≡◌ {A = Option (ℕ × Gen)} (Some (i, was)) (ptr_at (slot_at old.slots) i)
 renewed_read {Gen} {K} {T} generation old now k i r was is renewed some reported = by (slot_at old.slots i) (sym some ∙ (reported ∙ ap (option_map (λ (e : Gen × RawLink K T). e.0)) (renewed.stay i (omega (arith, is)))))
@@ -93,7 +89,6 @@ renewed_read {Gen} {K} {T} generation old now k i r was is renewed some reported
     by None h = absurd (let both = h in cc)
     by (Some e) h = ap (option_map (λ (x : Gen). (i, x))) h
 
--- A slot up to the number of slots has an entry, if the links are arranged canonically.
 pub stored_in_order : {Gen K T : Type 0} (number : K → Option ℕ) (generation : Gen) (old now : DetachedView Gen (RawLink K T)) (k i : ℕ) (r : Option Gen) → i ≡ k + 1 → k < length old.slots
     → IsCanonical (link_map_in number old.slots) (range_with_len 1 (length old.slots)) → AreRenewed generation old now k → r ≡ None → r ≡ option_map (λ (e : Gen × RawLink K T). e.0) (slot_at now.slots i) → ⊥
 stored_in_order {Gen} {K} {T} number generation old now k i r is inside canonical renewed none reported =
@@ -104,7 +99,6 @@ stored_in_order {Gen} {K} {T} number generation old now k i r is inside canonica
     cc
 
 module _ {F P Gen : Type 0} (g : F → P → P → F → Type 0) (key : P → ℕ × Gen) (pointer : ℕ → Option (ℕ × Gen)) (generation : Gen) where
-  -- The visitor sees the next index too.
   pub reports_more : (f last next : F) (k i : ℕ) (was : Gen) (p q : P) → i ≡ k + 1 → ReportsMoves g key pointer generation 1 f (range_with_len 1 k) last → key p ≡ (i, was) → ◌≡◌ {A = Option (ℕ × Gen)} (Some (i, was)) (pointer i)
       → key q ≡ (i, generation) → g last p q next → ReportsMoves g key pointer generation 1 f (range_with_len 1 (k + 1)) next
   reports_more f last next k i was p q is done from reported to called =
@@ -113,8 +107,6 @@ module _ {F P Gen : Type 0} (g : F → P → P → F → Type 0) (key : P → �
       (reports_then g key pointer generation 1 f last next (range_with_len 1 k) (i ∷ []) done
       (reports_one g key pointer generation (1 + length (range_with_len 1 k)) last next i p q (ap (λ (x : ℕ × Gen). Some x) from ∙ reported)
       (to ∙ ap (λ (n : ℕ). (n, generation)) (let long = length-range_with_len 1 k in let e : i ≡ 1 + length (range_with_len 1 k) = omega (arith, is, long) in e)) called))
-
--- ---- all links
 
 module _ {F P Gen K T : Type 0} (number : K → Option ℕ) (g : F → P → P → F → Type 0) (key : P → ℕ × Gen) (generation : Gen) (f last : F) (old new : DetachedView Gen (RawLink K T)) (before after : Arena Gen (RawLink K T))
     (agree : IsWellLinked (link_map_in number old.slots)) (canonical : IsCanonical (link_map_in number old.slots) (range_with_len 1 (length old.slots))) (renewed : AreRenewed generation old new (length old.slots)) where
@@ -127,7 +119,6 @@ module _ {F P Gen K T : Type 0} (number : K → Option ℕ) (g : F → P → P �
   arranges : IsArrangement links (range_with_len 1 slots)
   arranges = canonical_arranges links (range_with_len 1 slots) canonical
 
-  -- A link with a number keeps it.
   rests : (i : ℕ) → HasLink links i → place_in (range_with_len 1 slots) i ≡ Some i
   rests i h = let w = IsMember-range 1 slots i ((arranges.valid i).0 h) in places_rest slots i w.0 (omega (arith, w.1))
 
@@ -135,7 +126,6 @@ module _ {F P Gen K T : Type 0} (number : K → Option ℕ) (g : F → P → P �
   kept None each = refl
   kept (Some i) each = rests i (each i refl)
 
-  -- The interlinks of a link are renumbered as they are.
   same_link : (i : ℕ) (e : Gen × RawLink K T) → slot_at old.slots i ≡ Some e → renamed_link (place_in (range_with_len 1 slots)) (link_view number e.1) ≡ link_view number e.1
   same_link i e s = λ j. record { prev = prev j; next = next j; value = e.1.t }
     where
@@ -204,7 +194,6 @@ module _ {F P Gen K T : Type 0} (number : K → Option ℕ) (g : F → P → P �
         work = subst (λ (n : ℕ). IsWork before after n (4 * slots + 1 * length (range_with_len 1 slots))) (sym long) (work-few work _ (omega arith));
       }
 
--- After the loop all links are placed.
 pub all_renewed : {F P Gen K T : Type 0} (number : K → Option ℕ) (g : F → P → P → F → Type 0) (key : P → ℕ × Gen) (generation : Gen) (f last : F) (old new : DetachedView Gen (RawLink K T)) (before after : Arena Gen (RawLink K T))
     → IsWellLinked (link_map_in number old.slots) → IsCanonical (link_map_in number old.slots) (range_with_len 1 (length old.slots)) → (k count : ℕ) → k ≡ length old.slots → count ≡ length old.slots → AreRenewed generation old new k
     → ReportsMoves g key (ptr_at (slot_at old.slots)) generation 1 f (range_with_len 1 k) last → IsWork before after k k → AreAllPlaced number g key generation f last old new before after count 1

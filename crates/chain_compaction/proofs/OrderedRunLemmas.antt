@@ -21,12 +21,10 @@ use Rattle.chain_links.proofs.ArenaInsertionLemmas.{slots-within}
 use Rattle.chain_compaction.specs.DetachedLinks.{body_interlinks, link_map_in}
 use Rattle.chain_compaction.specs.OrderedLinks.{IsStartAfter}
 
--- The last index of a run.
 last_of_run : (j m : ℕ) (before : Option ℕ) → last_or (range_with_len j (suc m)) before ≡ Some (j + m)
 last_of_run j zero before = ap (λ (n : ℕ). Some n) (let e : j ≡ j + 0 = omega arith in e)
 last_of_run j (suc m) before = last_of_run (j + 1) m (Some j) ∙ ap (λ (n : ℕ). Some n) (let e : j + 1 + m ≡ j + suc m = omega arith in e)
 
--- Links that each name the next index are linked as a list.
 run_linked : (link_map : LinkMap) → IsWellLinked link_map → (j m : ℕ) (before after : Option ℕ) → prev_of link_map j ≡ before → ((i : ℕ) → j ≤ i → i ≤ j + m → HasLink link_map i)
     → ((i : ℕ) → j ≤ i → i < j + m → next_of link_map i ≡ Some (i + 1)) → next_of link_map (j + m) ≡ after → AreLinked link_map before (range_with_len j (suc m)) after
 run_linked link_map agree j zero before after prev valid on ends =
@@ -38,7 +36,6 @@ run_linked link_map agree j (suc m) before after prev valid on ends =
           (λ i low high. on i (omega (arith, low)) (omega (arith, high))) (ap (next_of link_map) (let e : j + 1 + m ≡ j + suc m = omega arith in e) ∙ ends),
     )
 
--- A run is a chain, if its last link names what that kind of chain asks.
 run_is_chain : (link_map : LinkMap) → IsWellLinked link_map → (is_cyclic : Bool) (j m : ℕ) → (is_cyclic ≡ false → prev_of link_map j ≡ None) → ((i : ℕ) → j ≤ i → i ≤ j + m → HasLink link_map i)
     → ((i : ℕ) → j ≤ i → i < j + m → next_of link_map i ≡ Some (i + 1)) → next_of link_map (j + m) ≡ (if is_cyclic then Some j else None) → IsChain link_map (chain_of is_cyclic (range_with_len j (suc m)))
 run_is_chain link_map agree false j m first valid on ends = ((λ none. cc), AreDistinct-range j (suc m), run_linked link_map agree j m None None (first refl) valid on ends)
@@ -85,7 +82,6 @@ module _ (link_map : LinkMap) where
     on = λ j low high. absurd (omega (arith, low, high));
   }
 
-  -- All links are in whole chains.
   pub runs_end : (slots start : ℕ) (is_cyclic : Bool) → HasLinksWithin link_map slots → AreRuns link_map start is_cyclic slots → start ≡ slots → IsCanonical link_map (range_with_len 1 slots)
   runs_end slots start is_cyclic within runs whole =
       let all : all_items runs.chains ≡ range_with_len 1 slots = runs.items ∙ ap (range_with_len 1) whole in
@@ -127,7 +123,6 @@ module _ (link_map : LinkMap) where
         by (yes e) = ap (next_of link_map) e ∙ (sym is_next ∙ (is ∙ ap (λ (n : ℕ). Some n) (let same : named ≡ j + 1 = omega (arith, e, there) in same)))
         by (no differs) = runs.on j low (omega (arith, high, differs))
 
-    -- The run goes on.
     runs_go_on : next ≡ Some (k + 2) → AreRuns link_map start is_cyclic (k + 1)
     runs_go_on is = record {
       chains = runs.chains;
@@ -139,7 +134,6 @@ module _ (link_map : LinkMap) where
       on = on_now (k + 2) is refl;
     }
 
-    -- The run ends.
     runs_close : next ≡ (if is_cyclic then Some (start + 1) else None) → AreRuns link_map (k + 1) is_cyclic (k + 1)
     runs_close is = record {
       chains = runs.chains ++ chain ∷ [];
@@ -203,7 +197,6 @@ module _ {Gen K T : Type 0} (number : K → Option ℕ) (old now : DetachedView 
       (is_prev ∙ ap₂ (λ (h : DetachedView Gen (RawLink K T)) (n : ℕ). prev_of (link_map_in number h.slots) n) same at) (is_next ∙ ap₂ (λ (h : DetachedView Gen (RawLink K T)) (n : ℕ). next_of (link_map_in number h.slots) n) same at)
       (λ e. first e ∙ is_some-map index prev) later after goes
 
--- Whether the links of all slots are in whole chains.
 pub runs_checked : {Gen K T : Type 0} (number : K → Option ℕ) (slots : List (Option (Gen × RawLink K T))) (start end k : ℕ) (is_cyclic : Bool) → end ≡ length slots → k ≡ length slots
     → AreRuns (link_map_in number slots) start is_cyclic k → OnTrue (start == end) (IsCanonical (link_map_in number slots) (range_with_len 1 (length slots)))
 runs_checked number slots start end k is_cyclic last all runs = by (start == end) refl

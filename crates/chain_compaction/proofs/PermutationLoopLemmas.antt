@@ -36,7 +36,6 @@ module _ {E : Type 0} (goal : E → Option ℕ) (Settles : E → E → Type 0) (
       by j d e low w (inl before) = let first : j ≤ k = before.1 in p.passed j d e first (s.stays j d e (λ b. let after : k < j = b.0 in omega arith) w)
       by j d e low w (inr after) = none j d e (after.1, low) w
 
-  -- If no entry waits, all slots are passed.
   pub passing_stops : (old now : List (Option E)) (k : ℕ) → ArePassed goal Settles old now k → waiting_count goal now ≡ 0 → ArePassed goal Settles old now (length old)
   passing_stops old now k p none = record { moves = p.moves; within = p.within; length = p.length; passed = λ j d e low w. none-waiting goal now none j d e w }
 
@@ -50,11 +49,9 @@ module _ {E : Type 0} (goal : E → Option ℕ) (Settles : E → E → Type 0) (
   passing_leaves_none old now p = waiting-none goal now (nowhere old now p)
 
 module _ {Gen T : Type 0} where
-  -- No work so far.
   pub work_on-begins : (a : Arena Gen T) (wait : ℕ) → IsWorkOn a a wait wait 0
   work_on-begins a wait = record { moved = 0; work = work-none a 0; count = omega arith }
 
-  -- A read, a placement and a write, after which one entry less waits.
   pub work_on-moves : (old was_read placed next : Arena Gen T) (wait less : ℕ) → was_read ≡ with_touch old → placed ≡ with_placement was_read → next ≡ with_touch placed → less + 1 ≡ wait
       → IsWorkOn old next wait less 0
   work_on-moves old was_read placed next wait less touched is written fewer = record {
@@ -63,11 +60,9 @@ module _ {Gen T : Type 0} where
     count = fewer;
   }
 
-  -- One touch that found no destination.
   pub work_on-reads : (old next : Arena Gen T) (wait : ℕ) → next ≡ with_touch old → IsWorkOn old next wait wait 1
   work_on-reads old next wait is = record { moved = 0; work = work-touched old next is; count = omega arith }
 
-  -- The work of a step, by whether an entry may still wait.
   pub work_on-either : (old next : Arena Gen T) (waited wait : ℕ) (b : Bool) → IsWorkOn old next waited wait 0 → IsWorkOn old next waited wait (if b then 0 else 1)
   work_on-either old next waited wait true work = work
   work_on-either old next waited wait false work = record {
@@ -76,7 +71,6 @@ module _ {Gen T : Type 0} where
     count = work.count;
   }
 
-  -- The work of two parts together.
   pub work_on-after : (old now next : Arena Gen T) (waited wait less some more all : ℕ) → IsWorkOn old now waited wait some → IsWorkOn now next wait less more → some + more ≡ all
       → IsWorkOn old next waited less all
   work_on-after old now next waited wait less some more all work further is = record {
@@ -85,11 +79,9 @@ module _ {Gen T : Type 0} where
     count = (let a : wait + work.moved ≡ waited = work.count in let b : less + further.moved ≡ wait = further.count in omega arith);
   }
 
-  -- The work before the first round.
   pub rounds_start : (old now : Arena Gen T) (waited wait more left : ℕ) → IsWorkOn old now waited wait more → left + wait ≤ waited → IsWorkInRounds old now waited wait more left
   rounds_start old now waited wait more left first moves = record { moved = first.moved; most = 2 * first.moved + more; work = first.work; few = omega (arith, first.count, moves); count = first.count }
 
-  -- The work after the reads before a round, and the round.
   pub rounds_continue : (old now was_read next : Arena Gen T) (waited wait less some left more all rest : ℕ) → IsWorkInRounds old now waited wait some left
       → IsWork now was_read 0 (2 * left) → (round : IsWorkOn was_read next wait less more) → some + more ≡ all → rest + less ≤ wait → IsWorkInRounds old next waited less all rest
   rounds_continue old now was_read next waited wait less some left more all rest rounds reads round is moves = record {
@@ -100,15 +92,12 @@ module _ {Gen T : Type 0} where
     count = omega (arith, rounds.count, round.count);
   }
 
-  -- The work after the last round.
   pub rounds_stop : (old now : Arena Gen T) (waited wait some all left : ℕ) → some ≤ all → IsWorkInRounds old now waited wait some left → IsWorkInRounds old now waited wait all 0
   rounds_stop old now waited wait some all left is rounds = record { moved = rounds.moved; most = rounds.most; work = rounds.work; few = omega (arith, rounds.few, is); count = rounds.count }
 
-  -- No work so far.
   pub rounds_begin : (a : Arena Gen T) (wait : ℕ) → IsWorkInRounds a a wait wait 0 0
   rounds_begin a wait = rounds_start a a wait wait 0 0 (work_on-begins a wait) (omega arith)
 
-  -- The work of two parts together.
   pub rounds_then : (old now next : Arena Gen T) (waited wait less some more all : ℕ) → IsWorkInRounds old now waited wait some 0 → IsWorkInRounds now next wait less more 0 → some + more ≡ all
       → IsWorkInRounds old next waited less all 0
   rounds_then old now next waited wait less some more all one two is = record {
@@ -119,7 +108,6 @@ module _ {Gen T : Type 0} where
     count = omega (arith, one.count, two.count);
   }
 
-  -- The total work, when no entry waits.
   pub rounds_end : (old now : Arena Gen T) (waited wait all more : ℕ) → IsWorkInRounds old now waited wait more 0 → wait ≡ 0 → waited ≡ all → IsWork old now all (4 * all + more)
   rounds_end old now waited wait all more rounds none each =
       let m : rounds.moved ≡ all = omega (arith, rounds.count) in

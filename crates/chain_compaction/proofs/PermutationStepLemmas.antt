@@ -15,11 +15,9 @@ use Rattle.chain_compaction.proofs.SlotCountLemmas.{slot_at-same, slot_at-other,
 use Rattle.chain_compaction.proofs.SlotSwapLemmas.{moving_continues, arrived_from, waited_there}
 use Rattle.chain_links.specs.Links.{destination_of, destination_at}
 
--- A settled entry has no destination.
 pub settled_rests : {Gen K T : Type 0} (number : K → Option ℕ) (g : Gen) (e f : Gen × RawLink K T) → Settles number g e f → destination_of number f ≡ None
 settled_rests number g e f s = s.empty
 
--- A settled entry does not wait.
 pub settled_waits_not : {E : Type 0} (goal : E → Option ℕ) (Settled : E → E → Type 0) (now : ℕ → Option E) (d : ℕ) (e : E) → ((e f : E) → Settled e f → goal f ≡ None) → IsSettledAt Settled now d e
     → (h : ℕ) (f : E) → HasDestination goal now d f h → ⊥
 settled_waits_not goal Settled now d e done s h f w =
@@ -28,7 +26,6 @@ settled_waits_not goal Settled now d e done s h f w =
     let some : goal f ≡ Some h = w.to in
     cc
 
--- After the exchange, the slot at d holds the entry with the generation.
 exchanged_entry : {Gen K T : Type 0} (number : K → Option ℕ) (g : Gen) (slots : List (Option (Gen × RawLink K T))) (i d : ℕ) (e : Gen × RawLink K T)
     → HasDestination (destination_of number) (slot_at slots) i e d → 1 ≤ d → d ≤ length slots
     → slot_at (with_slot (with_slot slots i (slot_at slots d)) d (option_map (λ (x : Gen × RawLink K T). (g, x.1)) (slot_at slots i))) d ≡ Some (g, e.1)
@@ -44,11 +41,9 @@ module _ {Gen K T : Type 0} (number : K → Option ℕ) (g : Gen) (slots : List 
   abbrev Entry : Type 0
   Entry = Gen × RawLink K T
 
-  -- An entry with the generation.
   abbrev renewed : Entry → Entry
   renewed x = (g, x.1)
 
-  -- The slots after one write of the exchange, after both, and without the destination.
   abbrev mid : List (Option Entry)
   mid = with_slot slots i (slot_at slots d)
 
@@ -127,7 +122,6 @@ module _ {Gen K T : Type 0} (number : K → Option ℕ) (g : Gen) (slots : List 
       = ap (λ (x : Option Entry). mark (destination_of number) (option_map (λ (y : Entry). (y.0, link)) x)) exchanged_at_d ∙ ap (λ (o : Option ℕ). one_if (is_some o)) empty in
       omega arith
 
-  -- If the destination is the slot itself, no entry waits there.
   pub own_settles : d ≡ i → (h : ℕ) (f : Entry) → HasDestination (destination_of number) (slot_at two) i f h → ⊥
   own_settles own h f v = settled_waits_not (destination_of number) (Settles number g) (slot_at two) d e (settled_rests number g) settled_at_d h f (subst (λ (x : ℕ). HasDestination (destination_of number) (slot_at two) x f h) (sym own) v)
 
@@ -148,11 +142,9 @@ module _ {Gen K T : Type 0} (number : K → Option ℕ) (g : Gen) (slots : List 
           let same : length two ≡ length slots = length-two in
           (first, omega arith)
 
--- No step yet.
 pub settling_begins : {E : Type 0} (goal : E → Option ℕ) (Settled : E → E → Type 0) (block : ℕ → Type 0) (old : List (Option E)) → IsSettling goal Settled block old old
 settling_begins goal Settled block old = record { moves = λ first m. m; within = λ b. b; length = refl; stays = λ j k f out v. v }
 
--- One more step, from a slot of the block.
 pub settling_continues : {E : Type 0} (goal : E → Option ℕ) (Settled : E → E → Type 0) (block : ℕ → Type 0) (i : ℕ) (old now next : List (Option E)) → block i
     → IsSettling goal Settled block old now → IsSettling goal Settled (λ (j : ℕ). j ≡ i) now next → IsSettling goal Settled block old next
 settling_continues goal Settled block i old now next inside before step = record {
@@ -162,7 +154,6 @@ settling_continues goal Settled block i old now next inside before step = record
   stays = λ j d e out w. before.stays j d e out (step.stays j d e (λ s. out (subst block (sym s) inside)) w);
 }
 
--- Two parts after one another.
 pub settling_joins : {E : Type 0} (goal : E → Option ℕ) (Settled : E → E → Type 0) (block : ℕ → Type 0) (old now next : List (Option E))
     → IsSettling goal Settled block old now → IsSettling goal Settled block now next → IsSettling goal Settled block old next
 settling_joins goal Settled block old now next before after = record {
@@ -189,7 +180,6 @@ module _ {Gen K : Type 0} (goal : Gen × K → Option ℕ) (Settled : Gen × K �
     maximum = ap (λ (h : DetachedView Gen K). h.maximum) same ∙ maximum;
   }
 
--- No entry waits if there is no destination.
 pub none_waits : {E : Type 0} (goal : E → Option ℕ) (slots : List (Option E)) (i : ℕ) → None ≡ option_and_then goal (slot_at slots i) → (d : ℕ) (e : E) → HasDestination goal (slot_at slots) i e d → ⊥
 none_waits goal slots i is d e w =
     let none : None ≡ goal e = is ∙ ap (option_and_then goal) w.stored in
@@ -212,7 +202,6 @@ module _ {Gen K T : Type 0} (number : K → Option ℕ) (g : Gen) (i d : ℕ) (b
   bounds : (1 ≤ d) × (d ≤ length before.slots)
   bounds = all.within i d who.0 who.1
 
-  -- Both slots exist, and the first is occupied.
   pub from_within : i ≤ length before.slots
   from_within = (stored-within before.slots i who.0 who.1.stored).1
 
@@ -227,7 +216,6 @@ module _ {Gen K T : Type 0} (number : K → Option ℕ) (g : Gen) (i d : ℕ) (b
     stored_link = sym (ap (λ (h : DetachedView Gen (RawLink K T)). option_map (λ (e : Gen × RawLink K T). e.1) (slot_at h.slots d)) moved
         ∙ ap (option_map (λ (e : Gen × RawLink K T). e.1)) (exchanged_entry number g before.slots i d who.0 who.1 bounds.0 bounds.1))
 
-    -- The link without its destination.
     left : (w : RawLink K T) × (number w.destination ≡ None) × (w ≡ record who.0.1 { destination = w.destination }) × (after ≡ detached_with_value exchanged d w)
     left = emptied.there who.0.1 stored_link
 
@@ -244,7 +232,6 @@ module _ {Gen K T : Type 0} (number : K → Option ℕ) (g : Gen) (i d : ℕ) (b
     one_less_after = subst (λ (s : Entries). waiting_count (destination_of number) s + 1 ≡ waiting_count (destination_of number) before.slots) slots_after
         (one_less number g before.slots i d who.0 left.0 left.1 left.2 who.1 bounds.0 bounds.1)
 
-    -- No entry waits there, unless one `may`.
     pub none_after : (may : Bool) → (may ≡ false → d ≡ i) → OnFalse may ((h : ℕ) (f : Gen × RawLink K T) → HasDestination (destination_of number) (slot_at after.slots) i f h → ⊥)
     none_after true own = tt
     none_after false own = subst (λ (s : Entries). (h : ℕ) (f : Gen × RawLink K T) → HasDestination (destination_of number) (slot_at s) i f h → ⊥) slots_after

@@ -21,7 +21,6 @@ use Rattle.chain_compaction.specs.Layouts.{AreAllMoves}
 use Rattle.chain_compaction.specs.PointerMoves.{AreMoved, IsPointerMove, HasLinksWhere, CompressionMovesPointers, CompressionHasMoves}
 
 module _ {Gen T : Type 0} where
-  -- Entries at consecutive indexes ascend.
   run-ascends : (n count : ℕ) (es : List ((ℕ × Gen) × T)) → map index_of es ≡ range_with_len n count → AscendsFrom n es
   run-ascends n count [] is = tt
   run-ascends n zero (e ∷ es) is = absurd (cc)
@@ -30,7 +29,6 @@ module _ {Gen T : Type 0} where
       let rest : map index_of es ≡ range_with_len (n + 1) count = cc in
       (omega arith, subst (λ i. AscendsFrom i es) (omega arith) (run-ascends (n + 1) count es rest))
 
-  -- Each entry is found at its index.
   pub each_found : (i : ℕ) (es : List ((ℕ × Gen) × T)) (entry : ℕ → Option (Gen × T)) → AscendsFrom i es → ((j : ℕ) → i ≤ j → entry j ≡ found j es)
       → AllByRecursion (λ (e : (ℕ × Gen) × T). entry e.0.0 ≡ Some (e.0.1, e.1)) es
   each_found i [] entry ascends was_read = tt
@@ -39,7 +37,6 @@ module _ {Gen T : Type 0} where
     each_found (suc e.0.0) es entry ascends.1 (λ j below. was_read j (omega (arith, below, ascends.0)) ∙ ap (λ b. cond b (Some (e.0.1, e.1)) (found j es)) (ne_eqb e.0.0 j (λ is. omega (arith, below, is)))),
   )
 
-  -- A found entry has its pointer among those of all entries.
   found_key : (q : ℕ × Gen) (t : T) (es : List ((ℕ × Gen) × T)) → found q.0 es ≡ Some (q.1, t) → Contains (map (λ (e : (ℕ × Gen) × T). e.0) es) q
   found_key q t [] is = absurd (cc)
   found_key q t (e ∷ es) is = by (e.0.0 == q.0) refl is (found_key q t es) where
@@ -50,7 +47,6 @@ module _ {Gen T : Type 0} where
         (0, omega arith, λ i. (index i, generation_is e.0.1 q.1 e.1 t is i))
     by false other is rest = Contains-append_right (e.0 ∷ []) (map (λ (f : (ℕ × Gen) × T). f.0) es) q (rest is)
 
-  -- Ascending entries have distinct indexes.
   ascends-low : (i j : ℕ) (es : List ((ℕ × Gen) × T)) → AscendsFrom j es → IsMember (map index_of es) i → j ≤ i
   ascends-low i j [] ascends has = absurd has
   ascends-low i j (e ∷ es) ascends (inl same) = omega (arith, ascends.0, same)
@@ -60,7 +56,6 @@ module _ {Gen T : Type 0} where
   ascends-apart j [] ascends = tt
   ascends-apart j (e ∷ es) ascends = ((λ has. omega (arith, ascends-low e.0.0 (suc e.0.0) es ascends.1 has)), ascends-apart (suc e.0.0) es ascends.1)
 
-  -- The pointers of entries with given indexes and one generation.
   keys-run : (g : Gen) (indexes : List ℕ) (es : List ((ℕ × Gen) × T)) → map index_of es ≡ indexes → AllByRecursion (λ (e : (ℕ × Gen) × T). e.0.1 ≡ g) es → map (λ (e : (ℕ × Gen) × T). e.0) es ≡ map (λ k. (k, g)) indexes
   keys-run g indexes [] is all = ap (map (λ k. (k, g))) is
   keys-run g [] (e ∷ es) is all = absurd (cc)
@@ -73,7 +68,6 @@ module _ {X G Gen U T : Type 0} (from : X → ℕ × G) (to : X → ℕ × Gen) 
   abbrev Moves : X → Type 0
   Moves m = (was : IsValid before (from m)) × (is : IsValid after (to m)) × Becomes m was.value is.value
 
-  -- A valid pointer is the old one of the move from its index.
   old_has : (p : ℕ × G) (u : U) (moves : List X) → before p.0 ≡ Some (p.1, u) → AllByRecursion Moves moves → IsMember (map (λ (m : X). (from m).0) moves) p.0 → Contains (map from moves) p
   old_has p u [] stored all has = absurd has
   old_has p u (m ∷ moves) stored all (inl same) =
@@ -89,7 +83,6 @@ module _ {X G Gen U T : Type 0} (from : X → ℕ × G) (to : X → ℕ × Gen) 
       let rest : map to moves ≡ map (λ (f : (ℕ × Gen) × T). f.0) es = cc in
       ap₂ (λ (n : ℕ) (ns : List ℕ). n ∷ ns) (ap (λ (q : ℕ × Gen). q.0) first) (indexes-mapped moves es rest)
 
-  -- Moves from the links in their least-index order to ascending entries.
   pub all_moved : (links : LinkMap) (indexes : List ℕ) (es : List ((ℕ × Gen) × T)) (moves : List X) → IsLeastIndexOrder links indexes → HasLinksWhere links before → AscendsFrom 1 es → ((i : ℕ) → found i es ≡ after i)
       → map (λ (m : X). (from m).0) moves ≡ indexes → map to moves ≡ map (λ (e : (ℕ × Gen) × T). e.0) es → AllByRecursion Moves moves → AreMoved from to Becomes before after moves
   all_moved links indexes es moves order are_stored ascends was_read arrives target values = record {
@@ -107,7 +100,6 @@ module _ {X G Gen U T : Type 0} (from : X → ℕ × G) (to : X → ℕ × Gen) 
         by (Some link) is some = record { link = link; links = is }
 
 module _ {P Gen T : Type 0} (key : P → ℕ × Gen) (before after : ℕ → Option (Gen × T)) where
-  -- A pointer to the entry at an index has that index.
   index_there : (p : ℕ × Gen) (i : ℕ) (o : Option (Gen × T)) → Some p ≡ option_map (λ (e : Gen × T). (i, e.0)) o → p.0 ≡ i
   index_there p i None is = absurd (cc)
   index_there p i (Some e) is = let same : p ≡ (i, e.0) = cc in ap (λ (q : ℕ × Gen). q.0) same
@@ -121,7 +113,6 @@ module _ {P Gen T : Type 0} (key : P → ℕ × Gen) (before after : ℕ → Opt
       let rest : map (λ (m : P × P). Some (key m.0)) moves ≡ map (ptr_at before) indexes = cc in
       ap₂ (λ (n : ℕ) (ns : List ℕ). n ∷ ns) (index_there (key m.0) i (before i) first) (indexes-from moves indexes rest)
 
-  -- One move.
   one_keeps : (m : P × P) (i : ℕ) (e : (ℕ × Gen) × T) → Some (key m.0) ≡ ptr_at before i → key m.1 ≡ e.0 → Some e.1 ≡ option_map (λ (e : Gen × T). e.1) (before i) → after e.0.0 ≡ Some (e.0.1, e.1) → IsPointerMove key before after m
   one_keeps m i e arrives target value stored = by (before i) refl arrives value where
     by : (o : Option (Gen × T)) → before i ≡ o → Some (key m.0) ≡ option_map (λ (e : Gen × T). (i, e.0)) o → Some e.1 ≡ option_map (λ (e : Gen × T). e.1) o → IsPointerMove key before after m
@@ -134,7 +125,6 @@ module _ {P Gen T : Type 0} (key : P → ℕ × Gen) (before after : ℕ → Opt
           refl,
         )
 
-  -- All moves.
   each_keeps : (moves : List (P × P)) (indexes : List ℕ) (es : List ((ℕ × Gen) × T)) → map (λ (m : P × P). Some (key m.0)) moves ≡ map (ptr_at before) indexes → map (λ (m : P × P). key m.1) moves ≡ map (λ (e : (ℕ × Gen) × T). e.0) es
       → map (λ t. Some t) (map (λ (e : (ℕ × Gen) × T). e.1) es) ≡ map (λ i. option_map (λ (e : Gen × T). e.1) (before i)) indexes → AllByRecursion (λ (e : (ℕ × Gen) × T). after e.0.0 ≡ Some (e.0.1, e.1)) es → AllByRecursion (IsPointerMove key before after) moves
   each_keeps [] indexes es arrives target values are_stored = tt
@@ -149,7 +139,6 @@ module _ {P Gen T : Type 0} (key : P → ℕ × Gen) (before after : ℕ → Opt
       let value_rest : map (λ t. Some t) (map (λ (e : (ℕ × Gen) × T). e.1) es) ≡ map (λ i. option_map (λ (e : Gen × T). e.1) (before i)) indexes = cc in
       (one_keeps m i e originals sources value are_stored.0, each_keeps moves indexes es originals_rest sources_rest value_rest are_stored.1)
 
--- A canonical compression moves pointers.
 pub compression_moves_pointers : {P Gen T : Type 0} (key : P → ℕ × Gen) (first : Gen) (following : Gen → Gen) → CompressionMovesPointers T key first following
 compression_moves_pointers {P} {Gen} {T} key first following reset old new links new_links before after moves read_before read_after are_stored layout all =
     all_moved (λ (m : P × P). key m.0) (λ (m : P × P). key m.1) (λ m t u. t ≡ u) before after links all.indexes new.entries moves all.order are_stored ascends read_after (indexes-from key before after moves all.indexes arrives) target
@@ -185,7 +174,6 @@ module _ {Gen T : Type 0} (entry : ℕ → Option (Gen × T)) where
   what_stored None some = absurd (let h = some in cc)
   what_stored (Some e) some = (e, refl)
 
-  -- The pointers at occupied indexes, paired with those at consecutive ones.
   pairs_of : (g : Gen) (n : ℕ) (indexes : List ℕ) → ((i : ℕ) → IsMember indexes i → is_some (entry i) ≡ true)
       → (moves : List ((ℕ × Gen) × (ℕ × Gen))) × (map (λ (m : (ℕ × Gen) × (ℕ × Gen)). Some m.0) moves ≡ map (ptr_at entry) indexes)
       × (map (λ (m : (ℕ × Gen) × (ℕ × Gen)). m.1) moves ≡ map (λ k. (k, g)) (range_with_len n (length indexes)))
@@ -198,7 +186,6 @@ module _ {Gen T : Type 0} (entry : ℕ → Option (Gen × T)) where
         ap (λ (ps : List (ℕ × Gen)). (n, g) ∷ ps) rest.2,
       )
 
--- A canonical compression has moves.
 pub compression_has_moves : {Gen T : Type 0} (first : Gen) (following : Gen → Gen) → CompressionHasMoves T first following
 compression_has_moves {Gen} {T} first following reset old new links new_links before after read_before read_after are_stored layout =
     (pairs.0, all, compression_moves_pointers (λ (p : ℕ × Gen). p) first following reset old new links new_links before after pairs.0 read_before read_after are_stored layout all)

@@ -8,7 +8,6 @@ use Rattle.chain_compaction.proofs.DetachedLinkLemmas.{work-none, work-touched, 
 use Rattle.chain_compaction.proofs.LinkLoanLemmas.{detached_then}
 use Rattle.chain_compaction.proofs.WorkCountLemmas.{counts_none, counts_on}
 
--- A position below the limit is written.
 pub below_replaced : (limit : ℕ) (positions : List ℕ) (count t k : ℕ) → t < length positions → k < limit → AreBelow limit positions count → AreBelow limit (slice_set positions t k) count
 below_replaced limit positions count t k inside low all p first = by (ℕ_discrete p t)
   where
@@ -16,7 +15,6 @@ below_replaced limit positions count t k inside low all p first = by (ℕ_discre
     by (yes same) = omega (arith, low, ap (λ q. slice_index (slice_set positions t k) q) same, get_or-set_same positions t k 0 inside)
     by (no differs) = omega (arith, all p first, get_or-set_other positions t p k 0 differs)
 
--- One more position below the limit is listed.
 pub below_added : (limit : ℕ) (positions : List ℕ) (count k : ℕ) → count < length positions → k < limit → AreBelow limit positions count → AreBelow limit (slice_set positions count k) (count + 1)
 below_added limit positions count k inside low all p first = by (ℕ_discrete p count)
   where
@@ -24,12 +22,10 @@ below_added limit positions count k inside low all p first = by (ℕ_discrete p 
     by (yes same) = omega (arith, low, ap (λ q. slice_index (slice_set positions count k) q) same, get_or-set_same positions count k 0 inside)
     by (no differs) = let before : p < count = omega (arith, first, differs) in omega (arith, all p before, get_or-set_other positions count p k 0 differs)
 
--- Fewer of the positions.
 pub below_fewer : (limit : ℕ) (positions : List ℕ) (count fewer : ℕ) → fewer ≤ count → AreBelow limit positions count → AreBelow limit positions fewer
 below_fewer limit positions count fewer few all p first = let before : p < count = omega (arith, first, few) in all p before
 
 module _ {P T S Inx Gen Word : Type 0} where
-  -- The reads of two parts together.
   pub reads_then : (a b c : Compactor P T S Inx Gen Word) (m n all : ℕ) → HasReadSlots a b m → HasReadSlots b c n → m + n ≤ all → HasReadSlots a c all
   reads_then a b c m n all one two few = record {
     detached = detached_then a b c one.detached two.detached;
@@ -37,7 +33,6 @@ module _ {P T S Inx Gen Word : Type 0} where
     counts = counts_on a b c one.counts two.counts;
   }
 
-  -- One more read.
   pub reads_more : (a b c : Compactor P T S Inx Gen Word) (m : ℕ) → HasReadSlots a b m → HasReadSlot b c → HasReadSlots a c (m + 1)
   reads_more a b c m one read = record {
     detached = detached_then a b c one.detached read.detached;
@@ -45,7 +40,6 @@ module _ {P T S Inx Gen Word : Type 0} where
     counts = counts_on a b c one.counts read.counts;
   }
 
-  -- No read.
   pub reads_none : (a : Compactor P T S Inx Gen Word) → HasReadSlots a a 0
   reads_none a = record {
     detached = refl;
@@ -53,6 +47,5 @@ module _ {P T S Inx Gen Word : Type 0} where
     counts = counts_none a;
   }
 
-  -- A higher bound on the reads.
   pub reads_few : (a b : Compactor P T S Inx Gen Word) (m n : ℕ) → HasReadSlots a b m → m ≤ n → HasReadSlots a b n
   reads_few a b m n read few = record { detached = read.detached; work = work-few read.work n few; counts = read.counts }

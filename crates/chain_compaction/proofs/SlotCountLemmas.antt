@@ -17,13 +17,11 @@ module _ {X : Type 0} where
   pub slot_at-other : (xs : List (Option X)) (i j : ℕ) (x : Option X) → 1 ≤ i → i ≤ length xs → j ≢ i → slot_at (with_slot xs i x) j ≡ slot_at xs j
   slot_at-other xs i j x low high differs = slot_at-written xs i j x low high ∙ if_other j i _ _ differs
 
-  -- The index of an entry is within the slots.
   pub stored-within : (xs : List (Option X)) (i : ℕ) (x : X) → slot_at xs i ≡ Some x → (1 ≤ i) × (i ≤ length xs)
   stored-within xs i x is =
       let lone : X → Interlinks = λ _. record { prev = None; next = None } in
       (slots-within lone xs).within i (record { link = lone x; links = ap (option_map lone) is })
 
-  -- A count after a write.
   pub count-with_slot : (p : Option X → Bool) (xs : List (Option X)) (i : ℕ) (x : Option X) → 1 ≤ i → i ≤ length xs
       → count_by p (with_slot xs i x) + cond (p (slot_at xs i)) 1 0 ≡ count_by p xs + cond (p x) 1 0
   count-with_slot p xs zero x low high = absurd (omega arith)
@@ -37,7 +35,6 @@ abbrev pub mark : {E : Type 0} → (E → Option ℕ) → Option E → ℕ
 mark goal slot = one_if (waits goal slot)
 
 module _ {E : Type 0} (goal : E → Option ℕ) where
-  -- With a slot added in front, each entry waits at the next index.
   waits-behind : (x : Option E) (xs : List (Option E)) (i : ℕ) (e : E) (d : ℕ) → HasDestination goal (slot_at xs) i e d → HasDestination goal (slot_at (x ∷ xs)) (suc i) e d
   waits-behind x xs zero e d w = let none : None ≡ Some e = w.stored in absurd (cc)
   waits-behind x xs (suc k) e d w = record { stored = w.stored; to = w.to }
@@ -58,7 +55,6 @@ module _ {E : Type 0} (goal : E → Option ℕ) where
   mark-all None all = refl
   mark-all (Some e) all = let a = all e refl in ap (λ (o : Option ℕ). one_if (is_some o)) a.1
 
-  -- If no entry waits, the count is 0.
   pub waiting-none : (xs : List (Option E)) → ((i d : ℕ) (e : E) → HasDestination goal (slot_at xs) i e d → ⊥) → waiting_count goal xs ≡ 0
   waiting-none [] not = refl
   waiting-none (x ∷ xs) not =
@@ -66,7 +62,6 @@ module _ {E : Type 0} (goal : E → Option ℕ) where
       let first : mark goal x ≡ 0 = mark-none x (λ e d is to. not 1 d e (record { stored = is; to = to })) in
       sum_by-cons (mark goal) x xs ∙ ap₂ (λ (a b : ℕ). a + b) first rest
 
-  -- If the count is 0, no entry waits.
   pub none-waiting : (xs : List (Option E)) → waiting_count goal xs ≡ 0 → (i d : ℕ) (e : E) → HasDestination goal (slot_at xs) i e d → ⊥
   none-waiting [] none i d e w = let within = stored-within [] i e w.stored in omega (arith, within.0, within.1)
   none-waiting (x ∷ xs) none zero d e w = let within = stored-within (x ∷ xs) zero e w.stored in omega (arith, within.0)
@@ -78,7 +73,6 @@ module _ {E : Type 0} (goal : E → Option ℕ) where
       let whole : waiting_count goal (x ∷ xs) ≡ mark goal x + waiting_count goal xs = sum_by-cons (mark goal) x xs in
       none-waiting xs (omega arith) (suc k) d e (record { stored = w.stored; to = w.to })
 
-  -- If each entry waits, the count is the number of entries.
   pub waiting-all : (xs : List (Option E)) → ((i : ℕ) (e : E) → slot_at xs i ≡ Some e → (d : ℕ) × (goal e ≡ Some d)) → waiting_count goal xs ≡ count_by is_some xs
   waiting-all [] all = refl
   waiting-all (x ∷ xs) all =
@@ -86,11 +80,9 @@ module _ {E : Type 0} (goal : E → Option ℕ) where
       let first : mark goal x ≡ one_if (is_some x) = mark-all x (λ e s. all 1 e s) in
       sum_by-cons (mark goal) x xs ∙ (ap₂ (λ (a b : ℕ). a + b) first rest ∙ sym (sum_by-cons (λ (y : Option E). one_if (is_some y)) x xs))
 
--- A loop index that has reached its end.
 pub at_end : (k end all : ℕ) → end ≡ all → k ≤ end → end ≤ k → k ≡ all
 at_end k end all is high low = omega (arith, is, high, low)
 
--- The number of entries stays the same if each is mapped.
 pub count-mapped : {A B : Type 0} (f : A → B) (xs : List (Option A)) → count_by is_some (map (option_map f) xs) ≡ count_by is_some xs
 count-mapped f [] = refl
 count-mapped f (x ∷ xs) = sum_by-cons (λ (y : Option _). one_if (is_some y)) (option_map f x) (map (option_map f) xs)

@@ -13,14 +13,12 @@ use Rattle.chain_compaction.proofs.WorkCountLemmas.{counts_touch}
 use Rattle.chain_links.specs.Links.{destination_of}
 
 module _ {P T S Inx Gen Word : Type 0} where
-  -- A read is one touch, and keeps the slots.
   pub has_read : (old new : Compactor P T S Inx Gen Word)
       → (new.detached ≡ old.detached) × ((new.arena.ghost_name ≡ old.arena.ghost_name) × (new.arena.now ≡ with_touch old.arena.now) × (new.placed ≡ old.placed) × (new.touched ≡ saturating_increment old.touched))
       → HasReadSlot old new
   has_read old new h = record { detached = h.0; arena = h.1.1; counts = counts_touch old new h.1.0 h.1.1 h.1.2 h.1.3 }
 
 module _ {Gen K T : Type 0} (packed : K → Option ℕ) where
-  -- An entry has its generation, its interlinks and its destination.
   pub entry_reported : (e : Gen × RawLink K T) (o : Option (Gen × RawLink K T)) → Some e ≡ o
       → (Some e.0 ≡ option_map (λ (x : Gen × RawLink K T). x.0) o) × (packed e.1.prev ≡ prev_in (option_map (body_interlinks packed) o))
       × (packed e.1.next ≡ next_in (option_map (body_interlinks packed) o)) × (packed e.1.destination ≡ option_and_then (destination_of packed) o)
@@ -31,7 +29,6 @@ module _ {Gen K T : Type 0} (packed : K → Option ℕ) where
     ap (option_and_then (destination_of packed)) is,
   )
 
-  -- A free slot has no generation, interlinks or destination.
   pub nothing_reported : (o : Option (Gen × RawLink K T)) → None ≡ o
       → (None ≡ option_map (λ (x : Gen × RawLink K T). x.0) o) × (None ≡ prev_in (option_map (body_interlinks packed) o))
       × (None ≡ next_in (option_map (body_interlinks packed) o)) × (None ≡ option_and_then (destination_of packed) o)
@@ -42,7 +39,6 @@ module _ {Gen K T : Type 0} (packed : K → Option ℕ) where
     ap (option_and_then (destination_of packed)) is,
   )
 
-  -- Whether a slot holds a link without a destination, by what a read returns.
   pub fresh_read : {I : Type 0} (number : I → ℕ) (o : Option (Gen × RawLink K T)) (r : Option Gen) (d : Option I) → r ≡ option_map (λ (x : Gen × RawLink K T). x.0) o
       → option_map number d ≡ option_and_then (destination_of packed) o → (is_some r && is_none d) ≡ is_fresh packed o
   fresh_read number None None d stored to = refl

@@ -4,7 +4,6 @@ use Rattle.std.proofs.Math.Decide.{ℕ_discrete}
 use Rattle.chain_compaction.specs.Permutations.{HasDestination, IsSettledAt, StillWaits, HasArrived, IsMoving, HaveMoved}
 
 module _ {E : Type 0} (goal : E → Option ℕ) (Settles : E → E → Type 0) (done : (e f : E) → Settles e f → goal f ≡ None) where
-  -- The invariant before the first exchange.
   pub moving_begins : (old : ℕ → Option E)
       → ((i j d : ℕ) (e f : E) → HasDestination goal old i e d → HasDestination goal old j f d → i ≡ j)
       → ((i : ℕ) (e : E) → old i ≡ Some e → (d : ℕ) × (goal e ≡ Some d)) → IsMoving goal Settles old old
@@ -29,7 +28,6 @@ module _ {E : Type 0} (goal : E → Option ℕ) (Settles : E → E → Type 0) (
       stayed : (j ≢ i) → (j ≢ d) → HasDestination goal now j f k → Before j f k
       arrived : j ≡ i → (i ≢ d) → HasDestination goal now d f k → Before j f k
 
-    -- No entry waits at d.
     none_at_d : (f : E) (k : ℕ) → next d ≡ Some f → goal f ≡ Some k → ⊥
     none_at_d f k s to =
         let there : next d ≡ Some at_d.entry = at_d.stored in
@@ -47,7 +45,6 @@ module _ {E : Type 0} (goal : E → Option ℕ) (Settles : E → E → Type 0) (
             arrived s differs (record { stored = sym (at_i differs) ∙ (ap next (sym s) ∙ v.stored); to = v.to })
         by (no n) (no m) = stayed m n (record { stored = sym (elsewhere j m n) ∙ v.stored; to = v.to })
 
-    -- An entry that waits afterwards waited before.
     pub arrived_from : (j : ℕ) (f : E) (k : ℕ) → HasDestination goal next j f k → (l : ℕ) × HasDestination goal now l f k
     arrived_from j f k v = by (before j f k v)
       where
@@ -55,7 +52,6 @@ module _ {E : Type 0} (goal : E → Option ℕ) (Settles : E → E → Type 0) (
         by (stayed a b u) = (j, u)
         by (arrived s n u) = (d, u)
 
-    -- An entry that waits at an index other than i waited there.
     pub waited_there : (j : ℕ) (f : E) (k : ℕ) → (j ≢ i) → HasDestination goal next j f k → HasDestination goal now j f k
     waited_there j f k ne v = by (before j f k v)
       where
@@ -73,7 +69,6 @@ module _ {E : Type 0} (goal : E → Option ℕ) (Settles : E → E → Type 0) (
           by (arrived s n v) (stayed c b' u) = absurd (b' (moving.apart l d k g f u v))
           by (arrived s n v) (arrived t m u) = s ∙ sym t
 
-      -- No entry that waits afterwards waits for d.
       for_other : (j : ℕ) (f : E) (k : ℕ) → Before j f k → k ≢ d
       for_other j f k (stayed a b v) s = a (moving.apart j i d f e (subst (HasDestination goal now j f) s v) w)
       for_other j f k (arrived s n v) t = n (moving.apart i d d e f w (subst (HasDestination goal now d f) t v))
@@ -84,7 +79,6 @@ module _ {E : Type 0} (goal : E → Option ℕ) (Settles : E → E → Type 0) (
           other : k ≢ d
           other = for_other j f k (before j f k v)
 
-          -- Slot i holds what was at d, which was not settled, since e waited for d.
           at_first : k ≡ i → (m : ℕ) → HasDestination goal now m f k → ⊥
           at_first t m u =
               let differs : i ≢ d = λ r. other (t ∙ r) in
@@ -99,7 +93,6 @@ module _ {E : Type 0} (goal : E → Option ℕ) (Settles : E → E → Type 0) (
           by (arrived t m u) (yes r) = at_first r d u
           by (arrived t m u) (no ne) = at_others ne d u
 
-      -- An entry still waits, or is settled at k.
       abbrev Outcome : (k : ℕ) → E → Type 0
       Outcome k f = ((l : ℕ) × HasDestination goal next l f k) ⊎ IsSettledAt Settles next k f
 
@@ -135,7 +128,6 @@ module _ {E : Type 0} (goal : E → Option ℕ) (Settles : E → E → Type 0) (
           by (inl u) = waited u.0 u.1 (ℕ_discrete u.0 i) (ℕ_discrete u.0 d)
           by (inr s) = placed s (ℕ_discrete k i) (ℕ_discrete k d)
 
-      -- Where an entry at j comes from.
       abbrev Origin : ℕ → E → Type 0
       Origin j f = StillWaits goal old next j f ⊎ HasArrived goal Settles old j f
 
@@ -147,7 +139,6 @@ module _ {E : Type 0} (goal : E → Option ℕ) (Settles : E → E → Type 0) (
           moved m carry same (inl o) = inl (record { from = o.from; to = o.to; waited = o.waited; waits = carry o.to o.waits })
           moved m carry same (inr o) = inr (record { from = o.from; entry = o.entry; waited = subst (HasDestination goal old o.from o.entry) (same o.entry o.settled) o.waited; settled = o.settled })
 
-          -- The entry that was settled now is e, which waited.
           own : StillWaits goal old now i e ⊎ HasArrived goal Settles old i e → j ≡ d → Settles e f → Origin j f
           own (inl o) here settled =
               let to : goal e ≡ Some d = w.to in
@@ -174,7 +165,6 @@ module _ {E : Type 0} (goal : E → Option ℕ) (Settles : E → E → Type 0) (
       pub moving_continues : IsMoving goal Settles old next
       moving_continues = record { apart = apart_after; unsettled = unsettled_after; there = there_after; back = back_after }
 
-  -- If no entry waits, all have moved.
   pub moving_ends : (old new : ℕ → Option E) → IsMoving goal Settles old new → ((i d : ℕ) (e : E) → HasDestination goal new i e d → ⊥) → HaveMoved goal Settles old new
   moving_ends old new moving none = record { there = λ i d e w. by_there i d e (moving.there i d e w); back = λ j e s. by_back j e (moving.back j e s) }
     where

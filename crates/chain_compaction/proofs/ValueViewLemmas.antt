@@ -13,7 +13,6 @@ use Rattle.chain_links.specs.declared.links.RawLink.{RawLink}
 use Rattle.chain_links.specs.Links.{link_view, held_in, held_entries, links_view, pair_view, entry_views}
 
 module _ {Gen X Y : Type 0} (f : X → Y) where
-  -- An entry with `f` applied to its value.
   abbrev on_entry : (ℕ × Gen) × X → (ℕ × Gen) × Y
   on_entry e = on_value f e
 
@@ -72,7 +71,6 @@ module _ {Gen X Y : Type 0} (f : X → Y) where
   }
 
 module _ {Gen K T : Type 0} (number : K → Option ℕ) where
-  -- The values of the links.
   pub values_of-links_view : (a : Arena Gen (RawLink K T)) → with_each held_in a ≡ values_of (links_view number a)
   values_of-links_view a = ap (λ (slots : List (Option (Gen × T))). let b : Arena Gen T = record (with_each held_in a) { slots = slots } in b) (twice a.slots) where
     twice : (slots : List (Option (Gen × RawLink K T))) → map (option_map (on_value held_in)) slots ≡ map (option_map (on_value link_value)) (map (option_map (pair_view number)) slots)
@@ -80,7 +78,6 @@ module _ {Gen K T : Type 0} (number : K → Option ℕ) where
     twice (None ∷ slots) = ap (λ rest. None ∷ rest) (twice slots)
     twice (Some e ∷ slots) = ap (λ rest. Some (e.0, e.1.t) ∷ rest) (twice slots)
 
-  -- The entries of an arena of links, as views and as values.
   pub entry_views-all : (a : Arena Gen (RawLink K T)) → entry_views number (entries a) ≡ entries (links_view number a)
   entry_views-all a = sym (entries-with_each (link_view number) a)
 

@@ -15,13 +15,11 @@ use Rattle.chain_compaction.specs.Layouts.{IsPairListed, ReportsAll, ReportsLayo
 use Rattle.chain_links.specs.CanonicalLayouts.{IsCanonicalLayout}
 
 module _ {P A : Type 0} where
-  -- A push within the capacity.
   pub listed_by_push : (old new : Vec (P × P) A) (p q : P) (ok : Bool) → (vec_len old < vec_capacity old → ok ≡ true)
       → new.items ≡ (if ok then old.items ++ (p, q) ∷ [] else old.items) → vec_len new ≡ (if ok then vec_len old + 1 else vec_len old) → vec_capacity old ≤ vec_capacity new → IsPairListed old p q new
   listed_by_push old new p q true done items long fits = record { listed = λ less. (items, long, fits) }
   listed_by_push old new p q false done items long fits = record { listed = λ less. absurd (let no = done less in cc) }
 
-  -- Pairs appended one after another, within the capacity.
   pub all_listed : {V : Type 0} (list : V → Vec (P × P) A) (moves : List (P × P)) (old new : V) → vec_len (list old) + length moves ≤ vec_capacity (list old)
       → FoldsTo (λ s (m : P × P) t. IsPairListed (list s) m.0 m.1 (list t)) old moves new → (list new).items ≡ (list old).items ++ moves
   all_listed list [] old new fits folds = ap (λ v. (list v).items) (sym folds) ∙ sym (append-nil (list old).items)
@@ -45,11 +43,9 @@ module _ {P Gen T : Type 0} (key : P → ℕ × Gen) (first : Gen) (following : 
       same_order = all.order.items ∙ (ap all_items (no_others links all.order.chains layout.order.chains all.order.are layout.order.are) ∙ sym layout.order.items)
 
 module _ {V P Gen T : Type 0} (key : P → ℕ × Gen) (old : ArenaView Gen T) (links : LinkMap) (generation : Gen) (f last : V) where
-  -- The visits were the moves of all links.
   moves_visited : {g : V → P → P → V → Type 0} (all : ReportsAll g key old links generation f last) → AreAllMoves key old links generation all.reports.moves
   moves_visited all = record { indexes = all.indexes; order = all.order; from = all.reports.from; to = all.reports.to }
 
-  -- A closure has seen the moves of all links.
   pub reported_to : {F : Type 0} (g : Mut F (P × (P × Unit {0})) (Unit {0})) (see : V → F) → ReportsAll (λ s p q t. Called g (see s) (p, (q, tt)) tt (see t)) key old links generation f last
       → ReportsLayout g key old links generation (see f)
   reported_to g see all = record {
@@ -59,7 +55,6 @@ module _ {V P Gen T : Type 0} (key : P → ℕ × Gen) (old : ArenaView Gen T) (
     all = moves_visited all;
   }
 
-  -- The moves of all links are listed.
   pub listed_all : {A : Type 0} (list : V → Vec (P × P) A) (first : Gen) (following : Gen → Gen) (reset : Bool) (new : ArenaView Gen T) (new_links : LinkMap) → IsCanonicalLayout first following reset old links new new_links
       → ReportsAll (λ s p q t. IsPairListed (list s) p q (list t)) key old links generation f last → (list f).items ≡ [] → vec_len (list f) ≡ 0 → length old.entries ≤ vec_capacity (list f)
       → AreAllMoves key old links generation (list last).items

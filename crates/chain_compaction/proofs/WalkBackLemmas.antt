@@ -10,7 +10,6 @@ use Rattle.chain_compaction.specs.Destinations.{HasChainFrom}
 use Rattle.chain_links.proofs.ArenaInsertionLemmas.{slots-within}
 
 module _ (link_map : LinkMap) (i steps here : ℕ) (back : IsBack link_map i steps here) where
-  -- The steps back and one more are at most the links of a linear chain.
   pub lookups_linear : (xs : List ℕ) → IsChain link_map (linear xs) → IsMember xs i → steps + 1 ≤ length xs
   lookups_linear xs h m =
       let b = back.in_linear xs h m in
@@ -18,7 +17,6 @@ module _ (link_map : LinkMap) (i steps here : ℕ) (back : IsBack link_map i ste
       let few : steps ≤ length b.1 = b.4 in
       omega arith
 
-  -- The steps back and one more are at most the links of a cyclic chain.
   pub lookups_cyclic : (xs : List ℕ) → IsChain link_map (cyclic (i ∷ xs)) → steps + 1 ≤ length xs + 1
   lookups_cyclic xs h =
       let b = back.in_cyclic xs h in
@@ -26,7 +24,6 @@ module _ (link_map : LinkMap) (i steps here : ℕ) (back : IsBack link_map i ste
       let few : steps ≤ length b.1 = b.4 in
       omega arith
 
--- A walk back takes fewer steps than there are slots.
 pub back_within : {Gen K T : Type 0} (number : K → Option ℕ) (slots : List (Option (Gen × RawLink K T))) (i steps here : ℕ) → HasChainFrom (link_map_in number slots) i → IsBack (link_map_in number slots) i steps here
     → steps < length slots
 back_within {Gen} {K} {T} number slots i steps here found back = by found.1

@@ -5,16 +5,13 @@ use Rattle.arena_base.specs.DetachedSlots.{saturating_increment, with_touch, wit
 use Rattle.arena_base.specs.declared.compactor.Compactor.{Compactor}
 use Rattle.chain_compaction.specs.WorkCounts.{saturating_count, HasCounted, CountsWork, ChangesOnlySlots}
 
--- One more is counted, up to the greatest count.
 counted_more : (n : ℕ) → saturating_increment (saturating_count n) ≡ saturating_count (n + 1)
 counted_more n = omega arith
 
 module _ {Gen T : Type 0} where
-  -- Arenas with the same totals are the same.
   pub same_totals : (a : Arena Gen T) (p q t u : ℕ) → p ≡ q → t ≡ u → ◌≡◌ {A = Arena Gen T} (record a { placed = p; touched = t }) (record a { placed = q; touched = u })
   same_totals a p q t u e f = λ j. record a { placed = e j; touched = f j }
 
-  -- A new compactor has counted nothing.
   pub counted_none : (a : Arena Gen T) → HasCounted a a 0 0
   counted_none a = record {
     placements = 0;
@@ -25,15 +22,12 @@ module _ {Gen T : Type 0} where
   }
 
 module _ {V T S Inx Gen Word : Type 0} where
-  -- Counts after no work.
   pub counts_none : (a : Compactor V T S Inx Gen Word) → CountsWork a a
   counts_none a = record { same_reference = refl; on = λ first had. had }
 
-  -- Counts after two parts of the work.
   pub counts_on : (a b c : Compactor V T S Inx Gen Word) → CountsWork a b → CountsWork b c → CountsWork a c
   counts_on a b c one two = record { same_reference = two.same_reference ∙ one.same_reference; on = λ first had. two.on first (one.on first had) }
 
-  -- Counts after a touch.
   pub counts_touch : (a b : Compactor V T S Inx Gen Word) → b.arena.ghost_name ≡ a.arena.ghost_name → b.arena.now ≡ with_touch a.arena.now → b.placed ≡ a.placed → b.touched ≡ saturating_increment a.touched → CountsWork a b
   counts_touch a b reference is same more = record {
     same_reference = reference;
@@ -46,7 +40,6 @@ module _ {V T S Inx Gen Word : Type 0} where
     };
   }
 
-  -- Counts after a placement.
   pub counts_place : (a b : Compactor V T S Inx Gen Word) → b.arena.ghost_name ≡ a.arena.ghost_name → b.arena.now ≡ with_placement a.arena.now → b.placed ≡ saturating_increment a.placed → b.touched ≡ a.touched → CountsWork a b
   counts_place a b reference is more same = record {
     same_reference = reference;
@@ -59,11 +52,9 @@ module _ {V T S Inx Gen Word : Type 0} where
     };
   }
 
-  -- No change.
   pub slots_stay : (a : Compactor V T S Inx Gen Word) → ChangesOnlySlots a a
   slots_stay a = record { capacity = refl; maximum = refl; counts = counts_none a }
 
-  -- Two changes after one another.
   pub slots_on : (a b c : Compactor V T S Inx Gen Word) → ChangesOnlySlots a b → ChangesOnlySlots b c → ChangesOnlySlots a c
   slots_on a b c one two = record {
     capacity = two.capacity ∙ one.capacity;
@@ -71,6 +62,5 @@ module _ {V T S Inx Gen Word : Type 0} where
     counts = counts_on a b c one.counts two.counts;
   }
 
-  -- The same slots.
   pub slots_detached : (a b : Compactor V T S Inx Gen Word) → b.detached ≡ a.detached → CountsWork a b → ChangesOnlySlots a b
   slots_detached a b same counts = record { capacity = λ j. (same j).stack_capacity; maximum = λ j. (same j).maximum; counts = counts }

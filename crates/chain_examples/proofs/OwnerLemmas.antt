@@ -9,7 +9,6 @@ use Rattle.chain_traits.specs.ChainVisits.{LinkVisit, IsLinkVisit, VisitsChain}
 use Rattle.chain_traits.proofs.ChainVisitLemmas.{each_mapped}
 use Rattle.chain_examples.specs.Owners.{SetsOwners}
 
--- A closure that writes the owner gives it to the chain.
 pub gives_owners : {A Gen K P F : Type 0} {view : A → ArenaView Gen (K × P)} {entry : A → ℕ → Option (Gen × (K × P))} (state : (a : A) → ArenaState (view a) (entry a)) (interlinks : A → LinkMap)
     (g : Mut F (P × (MutBor (K × P) × Unit {0})) (Unit {0} × (MutBor (K × P) × Unit {0}))) (key : P → ℕ × Gen) (owner : P) (f : F)
     → ((v : LinkVisit P (K × P)) (next : F) → IsLinkVisit g f v next → (v.left ≡ (v.value.0, owner)) × (next ≡ f))

@@ -28,7 +28,6 @@ module _ (link_map : LinkMap) (p q : ℕ) (agrees : IsWellLinked link_map) (vali
   rest_agrees : IsWellLinked rest
   rest_agrees = removed_agrees link_map p agrees
 
-  -- p is free, and its place is after q.
   free : rest p ≡ None
   free = removed-at link_map p
 
@@ -44,7 +43,6 @@ module _ (link_map : LinkMap) (p q : ℕ) (agrees : IsWellLinked link_map) (vali
   inserts : Inserts rest new p (Some q) (next_of rest q)
   inserts = inserted_inserts rest p (Some q) (next_of rest q) free
 
-  -- A chain of the rest that has neither link stays.
   kept : (c : Chain) → (IsMember (items c) p → ⊥) → (IsMember (items c) q → ⊥) → IsChain rest c → IsChain new c
   kept c no_p no_q chain = (inserts.rest c no_p no_q (no_after (next_of rest q) refl)).0 chain
     where
@@ -119,14 +117,12 @@ module _ (link_map : LinkMap) (p q : ℕ) (agrees : IsWellLinked link_map) (vali
         back i j (inr (inl e)) = ap (next_of link_map) (sym (one_some e.0)) ∙ followed ∙ ap (λ k. Some k) (sym e.1)
         back i j (inr (inr e)) = ap (next_of link_map) e.0 ∙ sym after_a ∙ e.1
 
-    -- p moved after a, which it followed, is where it was.
     pub moved_same : with_move_after link_map p a ≡ link_map
     moved_same = sym (insertion_is_determined_by_pairs rest link_map p (Some a) (next_of rest a) rest_agrees agrees free (position_after rest a p (next_of rest a) valid_a refl) reinserts)
 
     pub moved_back : with_move_after new p a ≡ link_map
     moved_back = ap (λ (m : LinkMap). with_insertion m p (Some a) (next_of m a)) ((removed_of_inserted_restores rest q p rest_agrees still_valid free).0) ∙ moved_same
 
--- A move keeps the arena well linked, changes chains as stated, and is undone by a move back.
 pub move_agrees : MoveAgrees
 move_agrees link_map p q agrees valid_p valid apart = moved_agrees link_map p q agrees valid_p valid apart
 

@@ -13,7 +13,6 @@ use Rattle.chain_laws.proofs.InterlinkLemmas.Linked.{HasLink-linked}
 use Rattle.chain_laws.proofs.JoinLemmas.LoneLinks.{with_lone-at, with_lone-elsewhere}
 use Rattle.chain_laws.proofs.RemovalLemmas.Pairs.{vacated-elsewhere}
 
--- Writes at an index depend on the link there alone.
 with_next_at-same : (left right : LinkMap) (u v : Option ℕ) (j : ℕ) → left j ≡ right j → with_next_at left u v j ≡ with_next_at right u v j
 with_next_at-same left right None v j e = e
 with_next_at-same left right (Some i) v j e = ap (λ (o : Option Interlinks). if j == i then option_map (with_next v) o else o) e
@@ -37,7 +36,6 @@ module _ (p q : ℕ) (apart : p ≢ q) where
   placed-elsewhere : (left right : LinkMap) (v : Option ℕ) (j : ℕ) → left j ≡ right j → placed left v j ≡ placed right v j
   placed-elsewhere left right v j e = linked-same (with_neighbors left (Some q) (Some p)) (with_neighbors right (Some q) (Some p)) (Some p) v j (linked-same left right (Some q) (Some p) j e)
 
-  -- The link at p after its two neighbors are set.
   between : (link_map : LinkMap) (v : Option ℕ) (l : Interlinks) → link_map p ≡ Some l → with_next_at (with_neighbors link_map (Some q) (Some p)) (Some p) v p ≡ Some (record { prev = Some q; next = v })
   between link_map v l is =
       if_same p p _ _ refl

@@ -15,9 +15,6 @@ use Rattle.chain_laws.proofs.ChainLemmas.Uniqueness.{chain_once}
 use Rattle.chain_laws.proofs.MoveAfterLemmas.{move_agrees, move_moves, moved_same}
 use Rattle.chain_laws.proofs.RemovalLemmas.Determinacy.{list_without-same, list_without-other, list_without-none, list_without-middle}
 
--- ---- lists without items
-
--- The items of a list without y are others of the list.
 list_without-has : (xs : List ℕ) (y i : ℕ) → IsMember (list_without xs y) i → IsMember xs i × (i ≢ y)
 list_without-has [] y i h = elim h [ ]
 list_without-has (x ∷ xs) y i h = by (cases_eq x y) h (list_without-has xs y i)
@@ -47,13 +44,11 @@ list_without_all-empty : (ys : List ℕ) → list_without_all [] ys ≡ []
 list_without_all-empty [] = refl
 list_without_all-empty (y ∷ ys) = list_without_all-empty ys
 
--- An item that is not left out stays alone.
 list_without_all-one : (x : ℕ) (ys : List ℕ) → (IsMember ys x → ⊥) → list_without_all (x ∷ []) ys ≡ x ∷ []
 list_without_all-one x [] none = refl
 list_without_all-one x (y ∷ ys) none =
     ap (λ (l : List ℕ). list_without_all l ys) (list_without-none (x ∷ []) y (⊎_elim (λ e. none (inl (sym e))) (λ h. h))) ∙ list_without_all-one x ys (λ h. none (inr h))
 
--- Nothing is left of a list if all of its items are left out.
 list_without_all-none : (xs ys : List ℕ) → ((i : ℕ) → IsMember xs i → IsMember ys i) → list_without_all xs ys ≡ []
 list_without_all-none [] [] all = refl
 list_without_all-none (x ∷ xs) [] all = absurd (all x (inl refl))
@@ -62,14 +57,11 @@ list_without_all-none xs (y ∷ ys) all = list_without_all-none (list_without xs
     others : (i : ℕ) → IsMember xs i × (i ≢ y) → IsMember ys i
     others i h = ⊎_elim (λ e. absurd (h.1 (sym e))) (λ k. k) (all i h.0)
 
--- ---- one move, of y after x
-
 module _ (old new : LinkMap) (x y : ℕ) (moves : MovesAfter old new y x) where
   not_beside : (a b : List ℕ) → (IsMember a y → ⊥) → (IsMember b y → ⊥) → y ≢ x → IsMember (a ++ x ∷ b) y → ⊥
   not_beside a b no_left no_right apart h = ⊎_elim no_left (⊎_elim (λ e. apart (sym e)) no_right) (IsMember-parts a (x ∷ b) y h)
 
   module _ (l r : List ℕ) (apart : y ≢ x) (once : AreDistinct (l ++ x ∷ r)) where
-    -- y is before x, after x, or not in the chain.
     abbrev Moved : (List ℕ → Chain) → Type 0
     Moved kind = IsChain new (kind (list_without l y ++ x ∷ y ∷ list_without r y))
 
@@ -155,8 +147,6 @@ module _ (old new : LinkMap) (x y : ℕ) (moves : MovesAfter old new y x) where
         by (inl h) = let w = IsMember-written xs y h in of_parts w.0 w.1 w.2
         by (inr no_y) = subst (λ (zs : List ℕ). IsChain new (kind zs)) (sym (list_without-none xs y no_y)) (stays xs no_y none chain)
 
--- ---- all moves
-
 -- Links x and followers of a well linked arena, without repetition.
 pub record CanFollow (link_map : LinkMap) (x : ℕ) (followers : List ℕ) : Type 0 where
   pub agrees : IsWellLinked link_map
@@ -201,7 +191,6 @@ module _ (kind : List ℕ → Chain)
       same : list_without_all (list_without l y ++ x ∷ []) followers ++ y ∷ followers ≡ list_without_all (list_without l y) followers ++ x ∷ y ∷ followers
       same = ap (λ (zs : List ℕ). zs ++ y ∷ followers) before ∙ append_assoc (list_without_all (list_without l y) followers) (x ∷ []) (y ∷ followers)
 
-  -- Nothing else is in it if its links are x and the followers.
   placed_all : (followers : List ℕ) (link_map : LinkMap) (x : ℕ) (xs : List ℕ) → CanFollow link_map x followers → IsChain link_map (kind xs) → AreDistinct xs
       → ((i : ℕ) → IsMember xs i ↔ IsMember (x ∷ followers) i) → IsChain (with_followers link_map x followers) (kind (x ∷ followers))
   placed_all followers link_map x xs can chain once same = let w = IsMember-written xs x ((same x).1 (inl refl)) in by w.0 w.1 w.2
@@ -231,7 +220,6 @@ module _ (kind : List ℕ → Chain)
       (λ e. filled (ap (λ (zs : List ℕ). list_without_all zs followers) e ∙ list_without_all-empty followers)))
       (λ h. (list_without-has xs y y h).1 refl) filled
 
--- A chain without x and the followers.
 kept : (followers : List ℕ) (link_map : LinkMap) (x : ℕ) (c : Chain) → CanFollow link_map x followers → ((i : ℕ) → IsMember (items c) i → IsMember (x ∷ followers) i → ⊥)
     → IsChain link_map c → IsChain (with_followers link_map x followers) c
 kept [] link_map x c can none chain = chain
@@ -245,8 +233,6 @@ same_links (y ∷ followers) link_map x i can =
     let later = same_links followers (next link_map x y followers can) y i (can_go_on link_map x y followers can) in
     let first = (first_moves link_map x y followers can).links i in
     (λ h. first.0 (later.0 h), λ h. later.1 (first.1 h))
-
--- ---- the laws
 
 one_in_linear : (old new : LinkMap) (x y : ℕ) → MovesAfter old new y x → (l r : List ℕ) → y ≢ x → IsChain old (linear (l ++ x ∷ r)) → IsChain new (linear (list_without l y ++ x ∷ y ∷ list_without r y))
 one_in_linear old new x y moves l r apart chain = moved_in_linear old new x y moves l r apart (chain_once old (linear (l ++ x ∷ r)) chain) chain

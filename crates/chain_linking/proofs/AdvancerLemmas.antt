@@ -16,7 +16,6 @@ module _ {Gen T : Type 0} (i : ℕ) where
   read_none (Some e) states = absurd (let h = states in cc)
 
 module _ {Gen T : Type 0} (a : Arena Gen (LinkView T)) where
-  -- The pointer to a link is valid.
   pub valid_there : (i : ℕ) (p : ℕ × Gen) (link : LinkView T) → entry_at a i ≡ Some (p.1, link) → p.0 ≡ i → IsValid (entry a) p
   valid_there i p link stored at = record {
     value = link.value;
@@ -53,7 +52,6 @@ module _ {Gen T : Type 0} (entry : ℕ → Option (Gen × T)) (interlinks : Link
       → IsPassing entry interlinks (record { left = left; start = start; forward = forward; back = back }) None (record { left = 0; start = start; forward = forward; back = back })
   is_ended left ends = record { passed = tt; spent = refl; end = ends left }
 
--- Walkers with equal parts are equal.
 pub same_walkers : {l m s t : ℕ} {f e b d : Option ℕ} → l ≡ m → s ≡ t → f ≡ e → b ≡ d
     → ◌≡◌ {A = Walker} (record { left = l; start = s; forward = f; back = b }) (record { left = m; start = t; forward = e; back = d })
 same_walkers {l} {m} {s} {t} {f} {e} {b} {d} left start forward back =

@@ -4,7 +4,6 @@ use Rattle.std.specs.Prelude.{IsTrue}
 use Rattle.chain_laws.specs.Chains.{LinkMap, Interlinks, IsWellLinked, HasLinksWithin, prev_in, next_in}
 use Rattle.chain_linking.specs.Agreement.{IsWellLinkedAt}
 
--- Reading the link that an interlink names decides whether they agree.
 pub is_responded : (named naming : ℕ → Option ℕ) (i j : ℕ) (lookup : Option ℕ) (returned : Bool) → Some j ≡ named i → lookup ≡ naming j → (IsTrue returned ↔ (lookup ≡ Some i))
     → IsTrue returned ↔ ((k : ℕ) → named i ≡ Some k → naming k ≡ Some i)
 is_responded named naming i j lookup returned names was_read test = (
@@ -13,14 +12,12 @@ is_responded named naming i j lookup returned names was_read test = (
 )
 
 module _ (link_map : LinkMap) where
-  -- An index without a link agrees.
   nothing_there : (i : ℕ) → link_map i ≡ None → IsWellLinkedAt link_map i
   nothing_there i none = record {
     forward = λ j at. absurd (let both = sym (ap next_in none) ∙ at in cc);
     back = λ j at. absurd (let both = sym (ap prev_in none) ∙ at in cc);
   }
 
-  -- Interlinks that agree within the slots agree.
   pub agrees_all : (slots : ℕ) → HasLinksWithin link_map slots → ((k : ℕ) → k < slots → IsWellLinkedAt link_map (k + 1)) → IsWellLinked link_map
   agrees_all slots within each = record { both = λ i j. ((at i).forward j, (at j).back i) } where
     there : (i : ℕ) → (1 ≤ i) × (i ≤ slots) → IsWellLinkedAt link_map i

@@ -18,7 +18,6 @@ use Rattle.chain_linking.specs.Iterators.{IsOnLinksBack}
 use Rattle.chain_linking.proofs.NeighborLemmas.{next_named, prev_named}
 
 module _ (link_map : LinkMap) (start : ℕ) where
-  -- Where the walk on goes from a link.
   abbrev on_from : ℕ → Option ℕ
   on_from at = step_forward start (next_of link_map at)
 
@@ -48,12 +47,10 @@ module _ (link_map : LinkMap) (start : ℕ) where
       ap (λ (o : Option ℕ). let s : ℕ = elim o [ None ↦ at | Some k ↦ end_from limit link_map start k ] in s) steps.1
       ∙ end_found end n steps.0 limit steps.2 (omega arith)
 
-  -- The last item of a list that is not empty.
   abbrev last_item : List ℕ → ℕ → ℕ
   last_item [] y = y
   last_item (x ∷ xs) y = last_item xs x
 
-  -- Along a linked list the walk on comes to its last item.
   steps_along : (before on : Option ℕ) (y : ℕ) (ys : List ℕ) → AreLinked link_map before (y ∷ ys) on → step_forward start on ≡ None → (IsMember ys start → ⊥) → StepsTo (last_item ys y) (length ys) y
   steps_along before on y [] stored ends none = (ap (λ o. step_forward start (next_in o)) stored.0 ∙ ends, refl)
   steps_along before on y (k ∷ ks) stored ends none =
@@ -88,7 +85,6 @@ module _ (link_map : LinkMap) (start : ℕ) where
       let walk = has_walk link_map slots start agrees within valid in
       begins_by slots walk.0 walk.1 (walk_bound link_map slots start walk.0 within walk.1)
 
-  -- One step on, to a link.
   pub on_continues : (slots at k : ℕ) → IsOnToEnd slots at → Some k ≡ on_from at → IsOnToEnd slots k × (steps_on slots k < steps_on slots at)
   on_continues slots at k is next = by is.steps is.few is.on
     where
@@ -101,7 +97,6 @@ module _ (link_map : LinkMap) (start : ℕ) where
           let now_left = counted (end_of slots link_map start) (suc n) at slots on few in
           (record { steps = n; few = omega (arith, few); on = more }, omega (arith, then_left, now_left))
 
-  -- No link is next.
   pub on_ends : (slots at : ℕ) → IsOnToEnd slots at → None ≡ on_from at → at ≡ end_of slots link_map start
   on_ends slots at is next = by is.steps is.on
     where
@@ -109,7 +104,6 @@ module _ (link_map : LinkMap) (start : ℕ) where
       by zero on = on.1
       by (suc n) on = absurd (let h = next in let g = on.1 in cc)
 
-  -- Each link reached has what holds of those that are named.
   unless_start : (P : ℕ → Type 0) (o : Option ℕ) → IfSome o P → IfSome (step_forward start o) P
   unless_start P None holds = tt
   unless_start P (Some k) holds = by (eqb k start)
@@ -133,11 +127,9 @@ module _ (link_map : LinkMap) (start : ℕ) where
     step_valid end (Some k) valid named = unless_start (HasLink link_map) (Some k) named
 
 module _ {Gen T : Type 0} (a : Arena Gen (LinkView T)) where
-  -- The walk on from a valid link comes to the end.
   pub way_to_end : (start : ℕ) → IsWellLinked (link_map a) → HasLink (link_map a) start → IsOnToEnd (link_map a) start (length a.slots) start
   way_to_end start agrees valid = on_begins (link_map a) start (length a.slots) agrees (link_map-within a) valid
 
-  -- From an existing link, a walker backwards reaches existing links.
   pub back_stored : (start i : ℕ) (e : Gen × LinkView T) (prev at : Option ℕ) → entry_at a i ≡ Some e → prev ≡ e.1.prev → at ≡ step_to start (end_in a start) prev → IsWellLinked (link_map a) → HasLink (link_map a) start
       → IsOnLinksBack (link_map a) start at
   back_stored start i e prev at stored named goes agrees began = record {

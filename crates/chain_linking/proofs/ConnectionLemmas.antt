@@ -31,14 +31,12 @@ whole true c first second = second
 whole false c first second = absurd (let h = first in cc)
 
 module _ {Gen K T : Type 0} (number : K → Option ℕ) where
-  -- The neighbors of a link in the link map.
   pub next_of-view_after : (a : Arena Gen (RawLink K T)) (p : ℕ × Gen) (link : RawLink K T) → entry_at a p.0 ≡ Some (p.1, link) → next_of (link_map (links_view number a)) p.0 ≡ number link.next
   next_of-view_after a p link stored = ap (λ (o : Option (Gen × LinkView T)). next_in (option_map interlinks_of o)) (entry_at-links_view number a p.0 ∙ ap (option_map (pair_view number)) stored)
 
   pub prev_of-view_after : (a : Arena Gen (RawLink K T)) (p : ℕ × Gen) (link : RawLink K T) → entry_at a p.0 ≡ Some (p.1, link) → prev_of (link_map (links_view number a)) p.0 ≡ number link.prev
   prev_of-view_after a p link stored = ap (λ (o : Option (Gen × LinkView T)). prev_in (option_map interlinks_of o)) (entry_at-links_view number a p.0 ∙ ap (option_map (pair_view number)) stored)
 
-  -- The same pointers are valid for links and for values.
   pub same_valid : (a : Arena Gen (RawLink K T)) (p : ℕ × Gen) → IsValidPtr a p ↔ IsValidPtr (values_of (links_view number a)) p
   same_valid a p =
       let first = IsValidPtr-with_each (link_view number) a p in
@@ -48,11 +46,9 @@ module _ {Gen K T : Type 0} (number : K → Option ℕ) where
   valid-view_after : (a : Arena Gen (RawLink K T)) (p : ℕ × Gen) (link : RawLink K T) → entry_at a p.0 ≡ Some (p.1, link) → IsValidPtr (values_of (links_view number a)) p
   valid-view_after a p link stored = (same_valid a p).0 (record { value = link; stored = stored })
 
-  -- A valid pointer has a link.
   pub valid_at : (a : Arena Gen (RawLink K T)) (p : ℕ × Gen) (link : RawLink K T) → entry_at a p.0 ≡ Some (p.1, link) → HasLink (link_map (links_view number a)) p.0
   valid_at a p link stored = record { link = interlinks_of (p.1, link_view number link); links = ap (option_map interlinks_of) (entry_at-links_view number a p.0 ∙ ap (option_map (pair_view number)) stored) }
 
-  -- Two links can be connected exactly if the first has no next, and the second no prev.
   pub can_connect : (a : Arena Gen (RawLink K T)) (p q : ℕ × Gen) (end start : RawLink K T) (b c : Bool) → entry_at a p.0 ≡ Some (p.1, end) → entry_at a q.0 ≡ Some (q.1, start)
       → is_some (number end.next) ≡ not b → is_some (number start.prev) ≡ not c → IsTrue (b && c) ↔ CanConnect (entry_at (values_of (links_view number a))) (link_map (links_view number a)) p q
   can_connect a p q end start b c at_p at_q no_next no_prev = (
@@ -67,7 +63,6 @@ module _ {Gen K T : Type 0} (number : K → Option ℕ) where
         (truth_of_not c (sym (ap is_some (sym (prev_of-view_after a q start at_q) ∙ can.no_prev)) ∙ no_prev))),
   )
 
-  -- An invalid pointer is valid for no value.
   pub not_valid : (a : Arena Gen (RawLink K T)) (p : ℕ × Gen) → (IsValidPtr a p → ⊥) → IsValidPtr (values_of (links_view number a)) p → ⊥
   not_valid a p invalid valid = invalid ((same_valid a p).1 valid)
 
@@ -83,35 +78,28 @@ module _ {Gen T : Type 0} where
     pub links : link_map b ≡ with_join (link_map a) p.0 q.0
     links = ap (λ (x : Arena Gen (LinkView T)). link_map x) is_joined ∙ link_map-joined a p.0 q.0
 
-    -- Values are unchanged.
     pub joined-values : values_of b ≡ values_of a
     joined-values = ap (λ (x : Arena Gen (LinkView T)). values_of x) is_joined ∙ values_of-with_link_map a (with_join (link_map a) p.0 q.0) (FitsLinks-linked a (Some p.0) (Some q.0))
 
-    -- The interlinks still agree.
     pub joined-agrees : IsWellLinked (link_map a) → IsWellLinked (link_map b)
     joined-agrees agrees = subst IsWellLinked (sym links) (joined_agrees (link_map a) p.0 q.0 agrees (end_and_start a p q can))
 
-    -- One pair is added.
     pub joined-pair : AddsPair (link_map a) (link_map b) p.0 q.0
     joined-pair = subst (λ (new : LinkMap). AddsPair (link_map a) new p.0 q.0) (sym links) (joined_adds_a_pair (link_map a) p.0 q.0 (end_and_start a p q can))
 
-    -- The chains are connected.
     pub joined-chains : Connects (link_map a) (link_map b) p.0 q.0
     joined-chains = subst (λ (new : LinkMap). Connects (link_map a) new p.0 q.0) (sym links) (joined_connects (link_map a) p.0 q.0)
 
 module _ {Gen K T : Type 0} (number : K → Option ℕ) where
-  -- The value of the link at an index.
   pub value_at : (a : Arena Gen (RawLink K T)) (i : ℕ) → entry_at (values_of (links_view number a)) i ≡ option_map (on_value (λ l. l.t)) (entry_at a i)
   value_at a i = entry_at-with_each link_value (links_view number a) i ∙ (ap (option_map (on_value link_value)) (entry_at-links_view number a i) ∙ twice (entry_at a i)) where
     twice : (o : Option (Gen × RawLink K T)) → option_map (on_value link_value) (option_map (pair_view number) o) ≡ option_map (on_value (λ l. l.t)) o
     twice None = refl
     twice (Some e) = refl
 
-  -- The current pointer to a link.
   pub ptr_at-some : (a : Arena Gen (RawLink K T)) (i : ℕ) (g : Gen) (link : RawLink K T) → entry_at a i ≡ Some (g, link) → ptr_at (entry_at (values_of (links_view number a))) i ≡ Some (i, g)
   ptr_at-some a i g link stored = ap (λ (o : Option (Gen × T)). let p : Option (ℕ × Gen) = option_map (λ e. (i, e.0)) o in p) (value_at a i ∙ ap (option_map (on_value (λ l. l.t))) stored)
 
-  -- The link of a pointer, with current pointers to its neighbors.
   pub link_at_ptr : (a : Arena Gen (RawLink K T)) (p : ℕ × Gen) (link : RawLink K T) (prev next : Option (ℕ × Gen)) → entry_at a p.0 ≡ Some (p.1, link)
       → prev ≡ option_and_then (ptr_at (entry_at (values_of (links_view number a)))) (number link.prev)
       → next ≡ option_and_then (ptr_at (entry_at (values_of (links_view number a)))) (number link.next)

@@ -13,7 +13,6 @@ use Rattle.chain_links.proofs.LinkStateLemmas.{entry_at-with_value}
 use Rattle.chain_links.proofs.ArenaInsertionLemmas.{slots-within}
 use Rattle.chain_linking.proofs.LinkWriteLemmas.{links_view-write, with_link_map-own}
 
--- The same interlinks, whether or not they are passed through.
 passed_through : (b : Bool) (l : Option Interlinks) → l ≡ (if b then option_map (λ (m : Interlinks). m) l else l)
 passed_through true None = refl
 passed_through true (Some l) = refl
@@ -49,7 +48,6 @@ module _ {Gen K T : Type 0} (number : K → Option ℕ) (a b : Arena Gen (RawLin
       by (no differs) = at j ∙ (ap (option_and_then (destination_of number)) (if_other j n _ _ differs) ∙ none)
 
 module _ {Gen K T : Type 0} (number : K → Option ℕ) where
-  -- A slot without a link has no destination.
   pub none_without_link : (slots : List (Option (Gen × RawLink K T))) (n : ℕ) → option_map (λ (e : Gen × RawLink K T). e.1) (slot_at slots n) ≡ None → destination_at number slots n ≡ None
   none_without_link slots n none = by (slot_at slots n) none
     where
@@ -57,7 +55,6 @@ module _ {Gen K T : Type 0} (number : K → Option ℕ) where
       by None is = refl
       by (Some e) is = absurd (let h = is in cc)
 
-  -- There is no link at index 0.
   pub clearing_begins : (slots : List (Option (Gen × RawLink K T))) (j : ℕ) → j ≤ 0 → destination_at number slots j ≡ None
   clearing_begins slots zero low = refl
   clearing_begins slots (suc k) low = absurd (omega (arith, low))
@@ -70,7 +67,6 @@ module _ {Gen K T : Type 0} (number : K → Option ℕ) where
       by (yes same) = ap (destination_at number next) same ∙ cleared
       by (no differs) = others j (was j (omega (arith, is, low, differs)))
 
-  -- There is no link after the last slot.
   pub clearing_ends : (now : List (Option (Gen × RawLink K T))) (k : ℕ) → length now ≤ k → ((j : ℕ) → j ≤ k → destination_at number now j ≡ None) → AreAtRest number now
   clearing_ends now k long was = record { none = λ j. by j (slot_at now j) refl }
     where

@@ -9,7 +9,6 @@ use Rattle.chain_links.specs.ChainArena.{on_value, link_map, entry, interlinks_i
 use Rattle.chain_links.proofs.LinkStateLemmas.{entry_at-links_view}
 use Rattle.chain_linking.proofs.ConnectionLemmas.{value_at}
 
--- `IfSome` is monotone.
 pub if_some : {A : Type 0} {P Q : A → Type 0} (o : Option A) → ((x : A) → P x → Q x) → IfSome o P → IfSome o Q
 if_some None then given = tt
 if_some (Some x) then given = then x given

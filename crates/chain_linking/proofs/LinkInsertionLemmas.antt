@@ -22,7 +22,6 @@ use Rattle.chain_linking.proofs.LinkWriteLemmas.{relink-own, FitsLinks, link_map
 use Rattle.chain_links.proofs.MappedArenaLemmas.{is_some-map}
 
 module _ {Gen T : Type 0} (a : Arena Gen (LinkView T)) (free : AreFree a.slots a.freed) (t : T) where
-  -- A link that names others is a lone link with interlinks written, at each index.
   named_at : (b : Bool) (u v : Option ℕ) (e : Option (Gen × LinkView T)) → (if b then Some (a.counter, new_link t u v) else e)
       ≡ relink (if b then Some (link u v) else option_map interlinks_of e) (if b then Some (a.counter, lone t) else e)
   named_at true u v e = refl
@@ -41,7 +40,6 @@ module _ {Gen T : Type 0} (a : Arena Gen (LinkView T)) (free : AreFree a.slots a
   FitsLinks-with_link : (u v : Option ℕ) → FitsLinks (with_link (link_map a) (next_index a) u v) (insert_lone a t)
   FitsLinks-with_link u v i = fits_at (i == next_index a) u v (entry_at a i) ∙ ap is_some (sym (slot_at-filled a.freed a.slots (a.counter, lone t) i free))
 
-  -- A link that names u and v and is named by them is inserted between them.
   pub placed : (u v : Option ℕ) → (u ≡ Some (next_index a) → v ≡ Some (next_index a)) → with_links_to (insert_next a (new_link t u v)) u v (next_index a) ≡ insert_between a t u v
   placed u v itself =
       let base = insert_lone a t in
@@ -55,7 +53,6 @@ module _ {Gen T : Type 0} (a : Arena Gen (LinkView T)) (free : AreFree a.slots a
 -- An insertion in the stored arena of links.
 module _ {Gen K T : Type 0} (packed : K → Option ℕ) (a b : Arena Gen (RawLink K T)) (d : Arena Gen (LinkView T)) (u v : Option ℕ) (t : T) (link : RawLink K T)
     (listed : IsListed a) (link_is : link_view packed link ≡ new_link t u v) (itself : u ≡ Some (next_index (links_view packed a)) → v ≡ Some (next_index (links_view packed a))) where
-  -- The new link, which names u and v and is named by them, is inserted between them.
   pub inserted_beside : b ≡ insert_next a link → d ≡ with_links_to (links_view packed b) u v (next_index (links_view packed a)) → d ≡ insert_between (links_view packed a) t u v
   inserted_beside is linked =
       let named : Arena Gen (LinkView T) → Arena Gen (LinkView T) = λ x. with_links_to x u v (next_index (links_view packed a)) in
@@ -77,7 +74,6 @@ module _ {Gen T : Type 0} (a : Arena Gen (LinkView T)) (free : AreFree a.slots a
   old_stored : (i : ℕ) → HasLink (link_map a) i → HasLink (link_map (insert_next a l)) i
   old_stored i has = ⊎_elim (new_stored i) (λ other. record { link = has.link; links = reports_after i ∙ (ap (option_map interlinks_of) (if_other i (next_index a) _ _ other) ∙ has.links) }) (cases_eq i (next_index a))
 
-  -- The links of the position exist.
   position_stored : (u v : Option ℕ) → IsWellLinked (link_map a) → IsInsertPosition (link_map a) (next_index a) u v → IfSome u (HasLink (link_map (insert_next a l))) × IfSome v (HasLink (link_map (insert_next a l)))
   position_stored u v agrees position =
       let between = position_between (link_map a) (next_index a) u v agrees (link_map-next a free) position in (
@@ -85,7 +81,6 @@ module _ {Gen T : Type 0} (a : Arena Gen (LinkView T)) (free : AreFree a.slots a
         if_each v (HasLink (link_map (insert_next a l))) (λ i is. ⊎_elim (old_stored i) (new_stored i) (between.valid_after i is)),
       )
 
--- The links of a position exist in the stored arena of links after the insertion.
 pub both_stored : {Gen K T : Type 0} (packed : K → Option ℕ) (a b : Arena Gen (RawLink K T)) (u v : Option ℕ) (link : RawLink K T) → IsListed a → IsWellLinked (link_map (links_view packed a))
     → IsInsertPosition (link_map (links_view packed a)) (next_index (links_view packed a)) u v → b ≡ insert_next a link
     → IfSome u (HasLink (link_map (links_view packed b))) × IfSome v (HasLink (link_map (links_view packed b)))

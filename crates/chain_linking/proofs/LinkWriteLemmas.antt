@@ -20,12 +20,10 @@ is_some-if true change l = is_some-map change l
 is_some-if false change l = refl
 
 module _ {Gen T : Type 0} where
-  -- An entry with its own interlinks is itself.
   pub relink-own : (o : Option (Gen × LinkView T)) → o ≡ relink (option_map interlinks_of o) o
   relink-own None = refl
   relink-own (Some e) = refl
 
-  -- An arena with its own interlinks is itself.
   pub with_link_map-own : (a : Arena Gen (LinkView T)) → a ≡ with_link_map a (link_map a)
   with_link_map-own a = is_relinked a a (link_map a) refl refl (λ i. relink-own (entry_at a i))
 
@@ -45,11 +43,9 @@ module _ {Gen T : Type 0} where
   relink-again (Some l) None (Some e) same = refl
   relink-again (Some l) (Some m) (Some e) same = refl
 
-  -- The link map is the interlinks that were written.
   pub link_map-with_link_map : (a : Arena Gen (LinkView T)) (interlinks : LinkMap) → FitsLinks interlinks a → link_map (with_link_map a interlinks) ≡ interlinks
   link_map-with_link_map a interlinks fits = fun_ext (λ i. ap (option_map interlinks_of) (entry_at-with_link_map a interlinks i) ∙ interlinks-relink (interlinks i) (entry_at a i) (fits i))
 
-  -- Of two writes of all interlinks the second counts.
   pub with_link_map-again : (a : Arena Gen (LinkView T)) (first second : LinkMap) → FitsLinks first a → with_link_map (with_link_map a first) second ≡ with_link_map a second
   with_link_map-again a first second fits = is_relinked a (with_link_map (with_link_map a first) second) second
       (length-with_link_map (with_link_map a first) second ∙ length-with_link_map a first) refl
@@ -71,7 +67,6 @@ module _ {Gen T : Type 0} where
   value-relink None (Some e) same = absurd (let h = same in cc)
   value-relink (Some l) (Some e) same = refl
 
-  -- Values are unchanged.
   pub values_of-with_link_map : (a : Arena Gen (LinkView T)) (interlinks : LinkMap) → FitsLinks interlinks a → values_of (with_link_map a interlinks) ≡ values_of a
   values_of-with_link_map a interlinks fits =
       ap (λ (slots : List (Option (Gen × T))). let b : Arena Gen T = record (values_of a) { slots = slots } in b)
@@ -84,7 +79,6 @@ module _ {Gen T : Type 0} where
   pub FitsLinks-linked : (a : Arena Gen (LinkView T)) (u v : Option ℕ) → FitsLinks (with_neighbors (link_map a) u v) a
   FitsLinks-linked a u v = FitsLinks-with_prev_at a (with_next_at (link_map a) u v) v u (FitsLinks-with_next_at a (link_map a) u v (FitsLinks-link_map a))
 
-  -- A write to a `next`, then one to a `prev`, as one write of all interlinks.
   pub next_and_prev_written : (a b c : Arena Gen (LinkView T)) (u next v prev : Option ℕ) → b ≡ with_link_map a (with_next_at (link_map a) u next) → c ≡ with_link_map b (with_prev_at (link_map b) v prev)
       → c ≡ with_link_map a (with_prev_at (with_next_at (link_map a) u next) v prev)
   next_and_prev_written a b c u next v prev first second =
@@ -95,7 +89,6 @@ module _ {Gen T : Type 0} where
       ∙ (ap (λ (m : LinkMap). with_link_map (with_link_map a followed) (with_prev_at m v prev)) (link_map-with_link_map a followed fits)
       ∙ with_link_map-again a followed (with_prev_at followed v prev) fits))
 
-  -- Two pairs are linked one after another.
   pub arena_with_pairs : (a b c : Arena Gen (LinkView T)) (u v w x : Option ℕ) → b ≡ with_link_map a (with_neighbors (link_map a) u v) → c ≡ with_link_map b (with_neighbors (link_map b) w x)
       → c ≡ with_link_map a (with_neighbors (with_neighbors (link_map a) u v) w x)
   arena_with_pairs a b c u v w x first second =
@@ -120,7 +113,6 @@ module _ {Gen K T : Type 0} (number : K → Option ℕ) where
   view_after-write (Some e) link write change is stored =
       ap (λ (l : RawLink K T). let o : Option (Gen × LinkView T) = Some (e.0, link_view number (write l)) in o) (sym (one_some stored)) ∙ ap (λ (l : LinkView T). let o : Option (Gen × LinkView T) = Some (e.0, l) in o) (is e.1)
 
-  -- A write to a link, in an arena of links.
   pub links_view-write : (a : Arena Gen (RawLink K T)) (n : ℕ) (link : RawLink K T) (write : RawLink K T → RawLink K T) (change : Interlinks → Interlinks) (interlinks : LinkMap) → IsWrite number write change
       → option_map (λ (e : Gen × RawLink K T). e.1) (entry_at a n) ≡ Some link
       → ((i : ℕ) → interlinks i ≡ (if i == n then option_map change (link_map (links_view number a) i) else link_map (links_view number a) i))

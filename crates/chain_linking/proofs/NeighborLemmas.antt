@@ -16,12 +16,10 @@ use Rattle.arena_traits.specs.Arena.{Arena, entry_at, IsValid}
 use Rattle.chain_linking.specs.ChainArenaLaws.{links_exist}
 use Rattle.chain_linking.proofs.LinkWriteLemmas.{FitsLinks, FitsLinks-link_map, link_map-with_link_map}
 
--- `IfSome` by cases of the option.
 pub if_each : {A : Type 0} (o : Option A) (P : A → Type 0) → ((x : A) → o ≡ Some x → P x) → IfSome o P
 if_each None P each = tt
 if_each (Some x) P each = each x refl
 
--- An index in the link map has a link.
 pub link_where : (link_map : LinkMap) (i : ℕ) → IsSome (link_map i) → HasLink link_map i
 link_where link_map i some = of (link_map i) refl some
   where
@@ -29,25 +27,20 @@ link_where link_map i some = of (link_map i) refl some
     of None is none = absurd (false≢true none)
     of (Some l) is here = reports_valid link_map i l is
 
--- Where the interlinks agree, the index after a link has a link.
 pub next_named : (link_map : LinkMap) (i : ℕ) → IsWellLinked link_map → IfSome (next_of link_map i) (HasLink link_map)
 next_named link_map i agrees = if_each (next_of link_map i) (HasLink link_map) (λ j is. prev_valid link_map j i ((agrees.both i j).0 is))
 
--- Where the interlinks agree, the index before a link has a link.
 pub prev_named : (link_map : LinkMap) (i : ℕ) → IsWellLinked link_map → IfSome (prev_of link_map i) (HasLink link_map)
 prev_named link_map i agrees = if_each (prev_of link_map i) (HasLink link_map) (λ j is. next_valid link_map j i ((agrees.both j i).1 is))
 
--- Other links stay when the link at i is removed.
 pub apart_named : (link_map : LinkMap) (i : ℕ) (o : Option ℕ) → IfSome o (HasLink link_map) → o ≢ Some i → IfSome o (HasLink (without_link link_map i))
 apart_named link_map i None stored apart = tt
 apart_named link_map i (Some j) stored apart = (HasLink-vacated link_map i j).1 (stored, λ same. apart (ap Some same))
 
 module _ {Gen T : Type 0} where
-  -- A valid pointer has a link.
   pub valid_link : (a : Arena Gen (LinkView T)) (p : ℕ × Gen) → IsValid (entry a) p → HasLink (link_map a) p.0
   valid_link a p valid = link_where (link_map a) p.0 (links_exist a p.0 ∙ ap is_some valid.stored)
 
-  -- A write of interlinks removes no link.
   pub still_named : (a b : Arena Gen (LinkView T)) (interlinks : LinkMap) (i : Option ℕ) → FitsLinks interlinks a → b ≡ with_link_map a interlinks → IfSome i (HasLink (link_map a)) → IfSome i (HasLink (link_map b))
   still_named a b interlinks None fits is stored = tt
   still_named a b interlinks (Some i) fits is stored = link_where (link_map b) i
@@ -55,12 +48,10 @@ module _ {Gen T : Type 0} where
       ∙ (ap (λ (m : LinkMap). is_some (m i)) (link_map-with_link_map a interlinks fits) ∙ (fits i ∙ (sym (FitsLinks-link_map a i) ∙ ap is_some stored.links))))
 
 module _ {Gen K T : Type 0} (number : K → Option ℕ) where
-  -- An index without an entry has no link.
   pub nothing_at : (a : Arena Gen (RawLink K T)) (n : ℕ) → entry_at a n ≡ None → HasLink (link_map (links_view number a)) n → ⊥
   nothing_at a n none stored =
       let nothing : link_map (links_view number a) n ≡ None = ap (option_map interlinks_of) (entry_at-links_view number a n ∙ ap (option_map (pair_view number)) none) in
       not_both_ways (link_map (links_view number a) n) stored.link nothing stored.links
 
-  -- An index without a value has no link.
   pub nothing_named : (a : Arena Gen (RawLink K T)) (n : ℕ) → option_map (λ (e : Gen × RawLink K T). e.1) (entry_at a n) ≡ None → HasLink (link_map (links_view number a)) n → ⊥
   nothing_named a n none stored = nothing_at a n (no_entry (entry_at a n) none) stored

@@ -18,7 +18,6 @@ use Rattle.chain_links.proofs.LinkStateLemmas.{entry_at-links_view}
 use Rattle.chain_linking.specs.ChainReversals.{arena_with_turn, arena_with_turns, walk_at}
 use Rattle.chain_linking.proofs.LinkWriteLemmas.{FitsLinks, FitsLinks-link_map, is_some-if, link_map-with_link_map, with_link_map-again, with_link_map-own}
 
--- A walk that does not come back to its start goes on to the next link, and back as before.
 pub steps_unless : (start : ℕ) (next back : Option ℕ) → (next ≡ Some start → ⊥) → (next ≡ step_forward start next) × (back ≡ step_back start next back)
 steps_unless start None back apart = (refl, refl)
 steps_unless start (Some k) back apart = (sym (if_other k start _ _ other), sym (if_other k start _ _ other))
@@ -26,7 +25,6 @@ steps_unless start (Some k) back apart = (sym (if_other k start _ _ other), sym 
     other : (k ≡ start) → ⊥
     other same = apart (ap Some same)
 
--- One that does is over.
 pub steps_nowhere : (start : ℕ) (next back : Option ℕ) → next ≡ Some start → (None ≡ step_forward start next) × (None ≡ step_back start next back)
 steps_nowhere start next back is = rw is (sym (if_same start start _ _ refl), sym (if_same start start _ _ refl))
 
@@ -54,7 +52,6 @@ module _ {Gen T : Type 0} where
   FitsLinks-with_turn : (a : Arena Gen (LinkView T)) (i : ℕ) → FitsLinks (with_turn (link_map a) i) a
   FitsLinks-with_turn a i j = is_some-if (eqb j i) turned (link_map a j) ∙ FitsLinks-link_map a j
 
-  -- A link turned, then those of a list.
   turned_more : (a b : Arena Gen (LinkView T)) (i : ℕ) (rest : List ℕ) → b ≡ arena_with_turn a i → arena_with_turns b rest ≡ arena_with_turns a (i ∷ rest)
   turned_more a b i rest is =
       ap (λ (x : Arena Gen (LinkView T)). arena_with_turns x rest) is
@@ -98,7 +95,6 @@ module _ {Gen T : Type 0} where
         short = walk_bound (link_map old) (length old.slots) start (walk_at old start) within is_walk
 
   module _ (old now : Arena Gen (LinkView T)) (start : ℕ) where
-    -- The link that comes next has a link, as it was.
     next_valid : (i : ℕ) (forward back : Option ℕ) → IsTurning old now start forward back → ((rest : List ℕ) → IsAhead (link_map old) start forward back rest → IsMember rest i) → HasLink (link_map now) i
     next_valid i forward back at first =
         let has = first at.rest at.ahead in
@@ -126,7 +122,6 @@ module _ {Gen T : Type 0} where
         ends (i ∷ rest) ahead turns = absurd ahead
 
     module _ (new : Arena Gen (LinkView T)) (i : ℕ) (is : new ≡ arena_with_turn now i) where
-      -- The first link of those left is turned.
       turned_first : (forward back onward behind : Option ℕ) (rest : List ℕ) → (at : IsTurning old now start forward back) → at.rest ≡ i ∷ rest → IsAhead (link_map old) start onward behind rest → IsTurning old new start onward behind
       turned_first forward back onward behind rest at same ahead = record {
         rest = rest;
@@ -143,7 +138,6 @@ module _ {Gen T : Type 0} where
           once : AreDistinct (i ∷ rest)
           once = subst AreDistinct same at.once
 
-      -- One link fewer is left then.
       fewer : (forward back onward behind : Option ℕ) (rest : List ℕ) → (at : IsTurning old now start forward back) → at.rest ≡ i ∷ rest → IsAhead (link_map old) start onward behind rest
           → left_to_turn old start onward behind < left_to_turn old start forward back
       fewer forward back onward behind rest at same ahead =

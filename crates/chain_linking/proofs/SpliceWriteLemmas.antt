@@ -12,22 +12,18 @@ use Rattle.arena_traits.specs.Arena.{Arena}
 use Rattle.chain_links.specs.ChainArena.{LinkView, link_map, with_link_map}
 use Rattle.chain_linking.proofs.LinkWriteLemmas.{FitsLinks-linked, link_map-with_link_map, with_link_map-again}
 
--- The links before and after the run are those that are read.
 pub skipped_by : {Gen T : Type 0} (a b : Arena Gen (LinkView T)) (first last : ℕ) (u v : Option ℕ) → u ≡ prev_of (link_map a) first → v ≡ next_of (link_map a) last
     → b ≡ with_link_map a (with_neighbors (link_map a) u v) → b ≡ with_link_map a (without_run (link_map a) first last)
 skipped_by a b first last u v before after is = is ∙ ap₂ (λ (u v : Option ℕ). with_link_map a (with_neighbors (link_map a) u v)) before after
 
 module _ {Gen T : Type 0} (a b : Arena Gen (LinkView T)) (first last : ℕ) (is : b ≡ with_link_map a (without_run (link_map a) first last)) where
-  -- The interlinks once the links before and after the run follow one another.
   pub skips : link_map b ≡ without_run (link_map a) first last
   skips = ap (λ (x : Arena Gen (LinkView T)). link_map x) is
       ∙ link_map-with_link_map a (without_run (link_map a) first last) (FitsLinks-linked a (prev_of (link_map a) first) (next_of (link_map a) last))
 
-  -- Each link is still there.
   pub still_there : (j : ℕ) → HasLink (link_map a) j → HasLink (link_map b) j
   still_there j valid = subst (λ (m : LinkMap). HasLink m j) (sym skips) ((HasLink-linked (link_map a) (prev_of (link_map a) first) (next_of (link_map a) last) j).1 valid)
 
-  -- What follows j then was somewhere before.
   pub after_there : (j : ℕ) (k : ℕ) → IsWellLinked (link_map a) → next_of (link_map b) j ≡ Some k → HasLink (link_map b) k
   after_there j k agrees after =
       still_there k (by (prev_of (link_map a) first) refl (sym (next_of-linked (link_map a) (prev_of (link_map a) first) (next_of (link_map a) last) j valid_before) ∙ (ap (λ (m : LinkMap). next_of m j) (sym skips) ∙ after)))
@@ -42,7 +38,6 @@ module _ {Gen T : Type 0} (a b : Arena Gen (LinkView T)) (first last : ℕ) (is 
           (λ other. prev_valid (link_map a) k j ((agrees.both j k).0 (sym (altered-other (next_of (link_map a)) w (next_of (link_map a) last) j other) ∙ e)))
           (cases_eq j w)
 
-  -- Two more pairs, and the run is moved.
   pub splices : (c : Arena Gen (LinkView T)) (p : ℕ)
       → c ≡ with_link_map b (with_neighbors (with_neighbors (link_map b) (Some p) (Some first)) (Some last) (next_of (link_map b) p))
       → c ≡ with_link_map a (with_splice (link_map a) p first last)

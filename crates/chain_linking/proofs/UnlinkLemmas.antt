@@ -27,7 +27,6 @@ same_if : {X : Type 0} (b : Bool) (x y : X) → x ≡ y → (if b then x else y)
 same_if true x y same = same
 same_if false x y same = refl
 
--- Linking a free index to itself changes nothing.
 linked_nowhere : (link_map : LinkMap) (i : ℕ) → link_map i ≡ None → with_neighbors link_map (Some i) (Some i) ≡ link_map
 linked_nowhere link_map i none = fun_ext (λ j. ⊎_elim (at j) (λ other. if_other j i _ _ other ∙ if_other j i _ _ other) (cases_eq j i))
   where
@@ -38,7 +37,6 @@ linked_nowhere link_map i none = fun_ext (λ j. ⊎_elim (at j) (λ other. if_ot
         ∙ (ap (option_map (with_prev (Some i))) (if_same j i _ _ same ∙ ap (option_map (with_next (Some i))) nothing) ∙ sym nothing)
 
 module _ {Gen T : Type 0} where
-  -- A write of a value leaves the interlinks unchanged.
   pub link_map-written : (a b : Arena Gen (LinkView T)) (i : ℕ) (t : T) → b ≡ with_value_at a i t → link_map b ≡ link_map a
   link_map-written a b i t written = ap (λ (x : Arena Gen (LinkView T)). link_map x) written ∙ fun_ext (λ j.
       ap (option_map interlinks_of) (slot_at-changed a.slots i j (option_map (on_value (with_link_value t))) refl)
@@ -48,7 +46,6 @@ module _ {Gen T : Type 0} where
       kept None = refl
       kept (Some e) = refl
 
-  -- A new generation leaves the interlinks unchanged.
   pub link_map-renewed : (following : Gen → Gen) (a b : Arena Gen (LinkView T)) (i : ℕ) → b ≡ invalidate_at following a i → link_map b ≡ link_map a
   link_map-renewed following a b i renewed = ap (λ (x : Arena Gen (LinkView T)). link_map x) renewed ∙ fun_ext (λ j.
       ap (option_map interlinks_of) (slot_at-changed a.slots i j (option_map (λ (e : Gen × LinkView T). (following a.counter, e.1))) refl)
@@ -58,7 +55,6 @@ module _ {Gen T : Type 0} where
       kept None = refl
       kept (Some e) = refl
 
-  -- A freed slot has no interlinks.
   pub link_map-remove_at : (following : Gen → Gen) (a : Arena Gen (LinkView T)) (i : ℕ) → link_map (remove_at following a i) ≡ without_link (link_map a) i
   link_map-remove_at following a i = fun_ext (λ j. ap (option_map interlinks_of) (slot_at-changed a.slots i j (λ _. None) refl) ∙ map-if (j == i) None (entry_at a j))
 
@@ -67,7 +63,6 @@ module _ {Gen T : Type 0} where
       let out = remove_at following a i in
       subst (λ (s : LinkMap). FitsLinks (with_neighbors s (prev_of (link_map a) i) (next_of (link_map a) i)) out) (link_map-remove_at following a i) (FitsLinks-linked out (prev_of (link_map a) i) (next_of (link_map a) i))
 
-  -- A removal bypasses the index.
   pub link_map-remove_link : (following : Gen → Gen) (a : Arena Gen (LinkView T)) (i : ℕ) → link_map (remove_link following a i) ≡ with_removal (link_map a) i
   link_map-remove_link following a i = link_map-with_link_map (remove_at following a i) (with_removal (link_map a) i) (fits-removed following a i)
 
@@ -76,19 +71,15 @@ module _ {Gen T : Type 0} where
 
   -- The state after a removal.
   module _ (following : Gen → Gen) (a b : Arena Gen (LinkView T)) (i : ℕ) (gone : b ≡ remove_link following a i) (agrees : IsWellLinked (link_map a)) where
-    -- The interlinks agree.
     pub removed-agrees : IsWellLinked (link_map b)
     removed-agrees = subst IsWellLinked (sym (passes_over following a b i gone)) (removed_agrees (link_map a) i agrees)
 
-    -- The index is removed from its chain.
     pub removed-chains : Removes (link_map a) (link_map b) i
     removed-chains = subst (λ (s : LinkMap). Removes (link_map a) s i) (sym (passes_over following a b i gone)) (removed_removes (link_map a) i agrees)
 
-    -- The index is removed from all pairs.
     pub removed-pairs : RemovesPairs (link_map a) (link_map b) i
     removed-pairs = subst (λ (s : LinkMap). RemovesPairs (link_map a) s i) (sym (passes_over following a b i gone)) (removed_in_pairs (link_map a) i agrees)
 
-  -- The values at other indexes are unchanged.
   pub values_of-remove_link : (following : Gen → Gen) (a : Arena Gen (LinkView T)) (i : ℕ) → values_of (remove_link following a i) ≡ remove_at following (values_of a) i
   values_of-remove_link following a i = values_of-with_link_map (remove_at following a i) (with_removal (link_map a) i) (fits-removed following a i) ∙ with_each-remove_at link_value following a i
 
@@ -96,7 +87,6 @@ module _ {Gen T : Type 0} where
   view_after-removed following a b i gone =
       ap (λ (x : Arena Gen (LinkView T)). view_of (values_of x)) gone ∙ (ap (λ (x : Arena Gen T). view_of x) (values_of-remove_link following a i) ∙ seeing.viewed_removed following (values_of a) i)
 
-  -- The steps of a removal.
   pub removal_by_steps : (following : Gen → Gen) (a out b : Arena Gen (LinkView T)) (i : ℕ) (u v : Option ℕ) → out ≡ remove_at following a i
       → b ≡ with_link_map out (with_neighbors (link_map out) u v) → u ≡ prev_of (link_map a) i → v ≡ next_of (link_map a) i → b ≡ remove_link following a i
   removal_by_steps following a out b i u v taken joined before after =
@@ -105,7 +95,6 @@ module _ {Gen T : Type 0} where
       ∙ (ap (λ (s : LinkMap). with_link_map (remove_at following a i) (with_neighbors s u v)) (link_map-remove_at following a i)
       ∙ ap₂ (λ (s t : Option ℕ). with_link_map (remove_at following a i) (with_neighbors (without_link (link_map a) i) s t)) before after))
 
-  -- The former neighbors of a removed link.
   pub were_beside : (following : Gen → Gen) (a out : Arena Gen (LinkView T)) (i : ℕ) (u v : Option ℕ) → out ≡ remove_at following a i → IsWellLinked (link_map a)
       → u ≡ prev_of (link_map a) i → v ≡ next_of (link_map a) i → WereBeside (link_map out) i u v
   were_beside following a out i u v taken agrees before after =
@@ -117,6 +106,5 @@ module _ {Gen T : Type 0} where
         ring = λ ring. (agrees.both i i).1 ring;
       }
 
-  -- A link alone in a ring is removed without a write.
   pub ring_gone : (a : Arena Gen (LinkView T)) (i : ℕ) (u v : Option ℕ) → link_map a i ≡ None → (u ≡ Some i → v ≡ Some i) → u ≡ Some i → a ≡ with_link_map a (with_neighbors (link_map a) u v)
   ring_gone a i u v gone ring same = with_link_map-own a ∙ ap (with_link_map a) (sym (linked_nowhere (link_map a) i gone) ∙ ap₂ (λ (x y : Option ℕ). with_neighbors (link_map a) x y) (sym same) (sym (ring same)))

@@ -12,13 +12,11 @@ use Rattle.chain_linking.proofs.NeighborLemmas.{next_named, prev_named}
 use Rattle.chain_linking.specs.Iterators.{IsOnLinks}
 
 module _ {Gen T : Type 0} (i : ℕ) where
-  -- A lookup that reports a link reports the entry at the index.
   pub read_some : (k : ℕ) (e : Gen × LinkView T) (o : Option (Gen × LinkView T)) → Some (k, e) ≡ option_map (index_and_entry i) o → o ≡ Some e
   read_some k e None states = absurd (let h = states in cc)
   read_some k e (Some f) states = ap (λ (p : ℕ × (Gen × LinkView T)). let o : Option (Gen × LinkView T) = Some p.1 in o) (sym (one_some states))
 
 module _ {Gen T : Type 0} (a : Arena Gen (LinkView T)) where
-  -- From an existing link, going forwards, a walker reaches existing links.
   pub onward_stored : (i : ℕ) (back : Option ℕ) (e : Gen × LinkView T) → entry_at a i ≡ Some e → IsWellLinked (link_map a) → IfSome back (HasLink (link_map a)) → IsOnLinks (link_map a) e.1.next back
   onward_stored i back e stored agrees behind = record {
     agrees = agrees;
@@ -26,7 +24,6 @@ module _ {Gen T : Type 0} (a : Arena Gen (LinkView T)) where
     behind = behind;
   }
 
-  -- From an existing link, going back, a walker reaches existing links.
   pub behind_stored : (i : ℕ) (e : Gen × LinkView T) → entry_at a i ≡ Some e → IsWellLinked (link_map a) → IsOnLinks (link_map a) None e.1.prev
   behind_stored i e stored agrees = record {
     agrees = agrees;
@@ -34,13 +31,11 @@ module _ {Gen T : Type 0} (a : Arena Gen (LinkView T)) where
     behind = subst (λ (o : Option ℕ). IfSome o (HasLink (link_map a))) (ap (λ (o : Option (Gen × LinkView T)). prev_in (option_map interlinks_of o)) stored) (prev_named (link_map a) i agrees);
   }
 
-  -- A walker with no next link passes nothing.
   pub nowhere : (left start : ℕ) → links_ahead a left start None None ≡ []
   nowhere zero start = refl
   nowhere (suc left) start = refl
 
   module _ (start i : ℕ) (back : Option ℕ) (e : Gen × LinkView T) (stored : entry_at a i ≡ Some e) where
-    -- A walker with steps left passes the current link.
     passes_first : (left : ℕ) → (left ≡ 0 → ⊥) → links_ahead a left start (Some i) back ≡ (i, e) ∷ links_ahead a (left - 1) start (step_forward start e.1.next) (step_back start e.1.next back)
     passes_first zero some = absurd (some refl)
     passes_first (suc n) some =
@@ -49,7 +44,6 @@ module _ {Gen T : Type 0} (a : Arena Gen (LinkView T)) where
         ap (λ (o : Option (Gen × LinkView T)). elim o [ None ↦ [] | Some f ↦ (i, f) ∷ ahead (next_of (link_map a) i) n ]) stored
         ∙ ap₂ (λ (next : Option ℕ) (left : ℕ). (i, e) ∷ ahead next left) (ap (λ (o : Option (Gen × LinkView T)). next_in (option_map interlinks_of o)) stored) less
 
-    -- A walker going back passes the link before it.
     pub passes_back : (left : ℕ) (prev : Option ℕ) → (left ≡ 0 → ⊥) → prev ≡ e.1.prev → links_ahead a left start None (Some i) ≡ (i, e) ∷ links_ahead a (left - 1) start None prev
     passes_back zero prev some named = absurd (some refl)
     passes_back (suc n) prev some named =
@@ -57,7 +51,6 @@ module _ {Gen T : Type 0} (a : Arena Gen (LinkView T)) where
         ap (λ (o : Option (Gen × LinkView T)). elim o [ None ↦ [] | Some f ↦ (i, f) ∷ links_ahead a n start None (prev_of (link_map a) i) ]) stored
         ∙ ap₂ (λ (before : Option ℕ) (left : ℕ). (i, e) ∷ links_ahead a left start None before) (ap (λ (o : Option (Gen × LinkView T)). prev_in (option_map interlinks_of o)) stored ∙ sym named) less
 
-    -- The current link is the last, before the start of a cyclic chain.
     pub passes_last : (left : ℕ) (next : Option ℕ) → (left ≡ 0 → ⊥) → next ≡ e.1.next → next ≡ Some start → links_ahead a left start (Some i) back ≡ (i, e) ∷ links_ahead a 0 start next back
     passes_last left next some named of_cyclic =
         let closed : e.1.next ≡ Some start = sym named ∙ of_cyclic in
@@ -67,7 +60,6 @@ module _ {Gen T : Type 0} (a : Arena Gen (LinkView T)) where
         (ap (step_forward start) closed ∙ if_same start start None (Some start) refl) (ap (λ (n : Option ℕ). step_back start n back) closed ∙ if_same start start None back refl)
         ∙ nowhere (left - 1) start)
 
-    -- The walker goes on, since its next link is not the start.
     pub passes_on : (left : ℕ) (next : Option ℕ) → (left ≡ 0 → ⊥) → next ≡ e.1.next → (next ≡ Some start → ⊥) → links_ahead a left start (Some i) back ≡ (i, e) ∷ links_ahead a (left - 1) start next back
     passes_on left next some named apart =
         passes_first left some

@@ -14,18 +14,15 @@ use Rattle.arena_traits.proofs.ArenaViewLemmas.{length-entries}
 use Rattle.chain_links.proofs.MappedArenaLemmas.{with_each-insert_next, entry_count-with_each, length-with_each, listed-with_each}
 use Rattle.arena_traits.proofs.InsertionLemmas.{AreFree, slot_at-filled, slot_at-next}
 
--- Lookup finds nothing past the end of a list.
 slice_index_or-inside : {X : Type 0} (xs : List (Option X)) (k : ℕ) (x : X) → slice_index_or xs k None ≡ Some x → k < length xs
 slice_index_or-inside [] k x stored = absurd (let h = stored in cc)
 slice_index_or-inside (y ∷ xs) zero x stored = omega arith
 slice_index_or-inside (y ∷ xs) (suc k) x stored = let inside = slice_index_or-inside xs k x stored in omega arith
 
--- Interlinks are those of an entry.
 pub some_entry : {X : Type 0} (f : X → Interlinks) (o : Option X) (l : Interlinks) → option_map f o ≡ Some l → (x : X) × (o ≡ Some x)
 some_entry f None l links = absurd (let h = links in cc)
 some_entry f (Some x) l links = (x, refl)
 
--- The links of slots are within the slots.
 pub slots-within : {X : Type 0} (f : X → Interlinks) (slots : List (Option X)) → HasLinksWithin (λ i. option_map f (slot_at slots i)) (length slots)
 slots-within {X} f slots = record { within = inside } where
   inside : (i : ℕ) → HasLink (λ i. option_map f (slot_at slots i)) i → (1 ≤ i) × (i ≤ length slots)
@@ -35,7 +32,6 @@ slots-within {X} f slots = record { within = inside } where
       let below = slice_index_or-inside slots k x.0 x.1 in (omega arith, omega arith)
 
 module _ {Gen T : Type 0} where
-  -- The index of the next insertion has no link.
   pub link_map-next : (a : Arena Gen (LinkView T)) → AreFree a.slots a.freed → link_map a (next_index a) ≡ None
   link_map-next a free = ap (option_map interlinks_of) (slot_at-next a.freed a.slots free)
 
@@ -43,22 +39,18 @@ module _ {Gen T : Type 0} where
   map-if true x y = refl
   map-if false x y = refl
 
-  -- An insertion only adds a lone link to the link map.
   pub link_map-insert_lone : (a : Arena Gen (LinkView T)) (t : T) → AreFree a.slots a.freed → link_map (insert_lone a t) ≡ with_lone (link_map a) (next_index a)
   link_map-insert_lone a t free = fun_ext (λ i. ap (option_map interlinks_of) (slot_at-filled a.freed a.slots (a.counter, lone t) i free)
       ∙ map-if (i == next_index a) (Some (a.counter, lone t)) (entry_at a i))
 
-  -- Every valid index is within the slots.
   pub link_map-within : (a : Arena Gen (LinkView T)) → HasLinksWithin (link_map a) (length a.slots)
   link_map-within a = slots-within interlinks_of a.slots
 
 module _ {Gen T : Type 0} where
-  -- There are as many values as links.
   pub values-count : (a : Arena Gen (LinkView T)) → length (entries (values_of a)) ≡ entry_count a
   values-count a = length-entries (values_of a) ∙ entry_count-with_each link_value a
 
 module _ {Gen K T : Type 0} (number : K → Option ℕ) where
-  -- Insertion commutes with `links_view`.
   pub links_view-insert_next : (a : Arena Gen (RawLink K T)) (link : RawLink K T) → links_view number (insert_next a link) ≡ insert_next (links_view number a) (link_view number link)
   links_view-insert_next a link = with_each-insert_next (link_view number) a link
 
@@ -68,7 +60,6 @@ module _ {Gen K T : Type 0} (number : K → Option ℕ) where
   pub next_index-links_view : (a : Arena Gen (RawLink K T)) → next_index (links_view number a) ≡ next_index a
   next_index-links_view a = ap (first_or_next a.freed) (length-with_each (link_view number) a)
 
-  -- `links_view` and `values_of` keep the free slots listed.
   pub listed-links_view : (a : Arena Gen (RawLink K T)) → IsListed a → IsListed (links_view number a)
   listed-links_view a listed = listed-with_each (link_view number) a listed
 
@@ -78,6 +69,5 @@ module _ {Gen K T : Type 0} (number : K → Option ℕ) where
   pub length-values : (a : Arena Gen (RawLink K T)) → length (values_of (links_view number a)).slots ≡ length a.slots
   length-values a = length-with_each link_value (links_view number a) ∙ length-with_each (link_view number) a
 
-  -- The number of values.
   pub count-values : (a : Arena Gen (RawLink K T)) → length (entries (values_of (links_view number a))) ≡ entry_count a
   count-values a = values-count (links_view number a) ∙ entry_count-links_view a

@@ -14,7 +14,6 @@ use Rattle.chain_links.specs.Links.{link_view}
 use Rattle.chain_links.specs.declared.links.RawLink.{RawLink}
 
 module _ {A Gen T P I W : Type 0} {view : A → ArenaView Gen T} {entry : A → ℕ → Option (Gen × T)} (state : (a : A) → ArenaState (view a) (entry a)) (interlinks : A → LinkMap) (pointers : PointerKind P I Gen W) (old new : A) (i : I) where
-  -- A removal at an index returns the link that was there, or that there was none.
   pub returned_at : (r : InvalidationResult (Gen × RawLink (PackedOption I W) T)) → RemovesLinkAt state interlinks pointers old i r new
       → option_map (on_value (link_view pointers.packed)) (value_within r) ≡ link_at (entry old) (interlinks old) (pointers.number i)
   returned_at InvalidPtr none = ap (λ (o : Option (Gen × T)). link_of o (interlinks old (pointers.number i))) (sym none)

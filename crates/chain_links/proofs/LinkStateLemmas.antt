@@ -13,7 +13,6 @@ use Rattle.chain_links.specs.Links.{link_view, pair_view, links_view}
 use Rattle.arena_traits.specs.Arena.{Arena, slot_at, with_slot, entry_at, with_value}
 use Rattle.chain_links.specs.ChainArena.{LinkView, relink, relink_from, with_link_map}
 
--- Lookup in a list with one item changed.
 slice_index_or-slice_set : {X : Type 0} (xs : List (Option X)) (k j : ℕ) (f : Option X → Option X) → f None ≡ None
     → slice_index_or (slice_set xs k (f (slice_index_or xs k None))) j None ≡ (if j == k then f (slice_index_or xs j None) else slice_index_or xs j None)
 slice_index_or-slice_set {X} [] k j f none = elim (j == k) as (λ b. let o : Option X = None in o ≡ (if b then f None else None)) [ true ↦ sym none | false ↦ refl ]
@@ -22,7 +21,6 @@ slice_index_or-slice_set (y ∷ xs) zero (suc j) f none = sym (if_other (suc j) 
 slice_index_or-slice_set (y ∷ xs) (suc k) zero f none = sym (if_other 0 (suc k) _ _ (λ is. absurd (omega (arith, is))))
 slice_index_or-slice_set (y ∷ xs) (suc k) (suc j) f none = slice_index_or-slice_set xs k j f none ∙ if_suc j k _ _
 
--- The slot at each index, with one slot changed.
 pub slot_at-changed : {X : Type 0} (slots : List (Option X)) (n i : ℕ) (f : Option X → Option X) → f None ≡ None
     → slot_at (with_slot slots n (f (slot_at slots n))) i ≡ (if i == n then f (slot_at slots i) else slot_at slots i)
 slot_at-changed {X} slots zero zero f none = sym (if_same 0 0 (f None) None refl ∙ none)
@@ -31,7 +29,6 @@ slot_at-changed slots (suc k) zero f none = sym (if_other 0 (suc k) _ _ (λ is. 
 slot_at-changed slots (suc k) (suc j) f none = slice_index_or-slice_set slots k j f none ∙ if_suc j k _ _
 
 module _ {Gen T : Type 0} where
-  -- The entries of an arena with one value written.
   pub entry_at-with_value : (a : Arena Gen T) (n : ℕ) (t : T) (i : ℕ)
       → entry_at (with_value a n t) i ≡ (if i == n then option_map (λ (e : Gen × T). (e.0, t)) (entry_at a i) else entry_at a i)
   entry_at-with_value a n t i = slot_at-changed a.slots n i (option_map (λ (e : Gen × T). (e.0, t))) refl
@@ -50,7 +47,6 @@ module _ {Gen T : Type 0} where
   slice_index_or-relink_from interlinks k x zero (e ∷ slots) at = ap (λ i. relink (interlinks i) e) (let same : k ≡ x = omega (arith, at) in same)
   slice_index_or-relink_from interlinks k x (suc j) (e ∷ slots) at = slice_index_or-relink_from interlinks (suc k) x j slots (omega (arith, at))
 
-  -- The entries of an arena with other interlinks.
   pub entry_at-with_link_map : (a : Arena Gen (LinkView T)) (interlinks : LinkMap) (i : ℕ) → entry_at (with_link_map a interlinks) i ≡ relink (interlinks i) (entry_at a i)
   entry_at-with_link_map a interlinks zero = refl
   entry_at-with_link_map a interlinks (suc j) = slice_index_or-relink_from interlinks 1 (suc j) j a.slots (omega arith)
@@ -62,7 +58,6 @@ module _ {Gen T : Type 0} where
   pub length-with_link_map : (a : Arena Gen (LinkView T)) (interlinks : LinkMap) → length (with_link_map a interlinks).slots ≡ length a.slots
   length-with_link_map a interlinks = length-relink_from interlinks 1 a.slots
 
-  -- An arena that differs only in interlinks is `relinked`.
   pub is_relinked : (a b : Arena Gen (LinkView T)) (interlinks : LinkMap) → length b.slots ≡ length a.slots → b ≡ record a { slots = b.slots }
       → ((i : ℕ) → entry_at b i ≡ relink (interlinks i) (entry_at a i)) → b ≡ with_link_map a interlinks
   is_relinked a b interlinks long rest entries =

@@ -7,17 +7,14 @@ use Rattle.std.proofs.lemmas.List.Sums.{sum_by-cons}
 use Rattle.arena_traits.specs.Arena.{Arena, slot_at, with_slot, slots_after_insertion, entry_at, entry_count, insert_next, remove_at, invalidate_at, with_value, arena_after_clear, counter_after_clear, IsListed, IsValid}
 use Rattle.chain_links.specs.ChainArena.{on_value, with_each}
 
--- A mapped option is `Some` exactly if the option is.
 pub is_some-map : {X Y : Type 0} (f : X → Y) (o : Option X) → is_some (option_map f o) ≡ is_some o
 is_some-map f None = refl
 is_some-map f (Some x) = refl
 
--- A list with one item changed, mapped.
 pub map-with_slot : {X Y : Type 0} (f : X → Y) (xs : List X) (n : ℕ) (x : X) → map f (with_slot xs n x) ≡ with_slot (map f xs) n (f x)
 map-with_slot f xs zero x = refl
 map-with_slot f xs (suc k) x = map-set f xs k x
 
--- The slot at an index of mapped slots.
 pub slot_at-map : {X Y : Type 0} (f : X → Y) (slots : List (Option X)) (i : ℕ) → slot_at (map (option_map f) slots) i ≡ option_map f (slot_at slots i)
 slot_at-map f slots zero = refl
 slot_at-map {X} {Y} f slots (suc k) = by slots k where
@@ -43,7 +40,6 @@ module _ {Gen X Y : Type 0} (f : X → Y) where
   pub length-with_each : (a : Arena Gen X) → length (with_each f a).slots ≡ length a.slots
   length-with_each a = length-map a.slots (option_map (on_value f))
 
-  -- The same indexes are free.
   pub none-with_each : (a : Arena Gen X) (i : ℕ) → (entry_at a i ≡ None) ↔ (entry_at (with_each f a) i ≡ None)
   none-with_each a i = (
     λ none. entry_at-with_each a i ∙ ap (option_map (on_value f)) none,
@@ -72,7 +68,6 @@ module _ {Gen X Y : Type 0} (f : X → Y) where
   pub entry_count-with_each : (a : Arena Gen X) → entry_count (with_each f a) ≡ entry_count a
   entry_count-with_each a = count a.slots
 
-  -- The arena with other slots.
   abbrev over : Arena Gen X → List (Option (Gen × Y)) → Arena Gen Y
   over a slots = record (with_each f a) { slots = slots }
 
@@ -81,7 +76,6 @@ module _ {Gen X Y : Type 0} (f : X → Y) where
   map-filled [] slots e = map-append (option_map (on_value f)) slots (Some e ∷ [])
   map-filled (i ∷ freed) slots e = map-with_slot (option_map (on_value f)) slots i (Some e)
 
-  -- Each call commutes with `with_each`.
   pub with_each-insert_next : (a : Arena Gen X) (x : X) → with_each f (insert_next a x) ≡ insert_next (with_each f a) (f x)
   with_each-insert_next a x = ap (over (insert_next a x)) (map-filled a.freed a.slots (a.counter, x))
 
@@ -107,7 +101,6 @@ module _ {Gen X Y : Type 0} (f : X → Y) where
   pub with_each-cleared : (following : Gen → Gen) (a : Arena Gen X) → with_each f (arena_after_clear following a) ≡ arena_after_clear following (with_each f a)
   with_each-cleared following a = ap (λ n. let b : Arena Gen Y = record (with_each f a) { slots = []; counter = counter_after_clear following n a.counter; freed = [] } in b) (sym (entry_count-with_each a))
 
-  -- The same pointers are valid.
   pub IsValidPtr-with_each : (a : Arena Gen X) (p : ℕ × Gen) → IsValidPtr a p ↔ IsValidPtr (with_each f a) p
   IsValidPtr-with_each a p = (
     (λ valid. record { value = f valid.value; stored = entry_at-with_each a p.0 ∙ ap (option_map (on_value f)) valid.stored }),

@@ -8,7 +8,6 @@ use Rattle.chain_laws.proofs.WalkLemmas.WalkBack.{length_among}
 use Rattle.arena_traits.specs.Entries.{ArenaView, ArenaState, count, found, index_of}
 
 module _ {Gen T : Type 0} where
-  -- A found index is that of an entry.
   pub found_has : (i : ℕ) (es : List ((ℕ × Gen) × T)) → is_some (found i es) ≡ true → IsMember (map index_of es) i
   found_has i [] some = absurd (let h = some in cc)
   found_has i (e ∷ es) some = by (e.0.0 == i) refl some (found_has i es) where
@@ -16,7 +15,6 @@ module _ {Gen T : Type 0} where
     by true same some rest = inl (eqb-true e.0.0 i same)
     by false other some rest = inr (rest some)
 
-  -- There is no link where there is no entry.
   pub unlinked : (entry : ℕ → Option (Gen × T)) (links : LinkMap) (i : ℕ) → is_some (links i) ≡ is_some (entry i) → entry i ≡ None → links i ≡ None
   unlinked entry links i alike free = by (links i) (alike ∙ ap is_some free)
     where
@@ -24,7 +22,6 @@ module _ {Gen T : Type 0} where
       by None none = refl
       by (Some link) none = absurd (cc)
 
--- Distinct indexes with entries are at most as many as the entries.
 pub occupied_fit : {A Gen T : Type 0} {view : A → ArenaView Gen T} {entry : A → ℕ → Option (Gen × T)} (state : (a : A) → ArenaState (view a) (entry a)) (a : A) (xs : List ℕ) → AreDistinct xs
     → ((i : ℕ) → IsMember xs i → is_some (entry a i) ≡ true) → length xs ≤ count (view a)
 occupied_fit {view = view} state a xs once occupied =

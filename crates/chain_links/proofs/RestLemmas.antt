@@ -6,7 +6,6 @@ use Rattle.arena_traits.specs.Arena.{slot_at, with_slot, slots_after_insertion}
 use Rattle.chain_links.specs.declared.links.RawLink.{RawLink}
 use Rattle.chain_links.specs.Links.{IsAtRest, destination_of, destination_at, AreAtRest, StayAtRest}
 
--- No link in the slot has a destination.
 abbrev IsEmpty : {Gen K T : Type 0} → (K → Option ℕ) → Option (Gen × RawLink K T) → Type 0
 IsEmpty number slot = option_and_then (destination_of number) slot ≡ None
 
@@ -31,21 +30,17 @@ module _ {Gen K T : Type 0} (number : K → Option ℕ) where
       by zero = refl
       by (suc k) = each k
 
-  -- There are no slots.
   pub nothing_at_rest : AreAtRest {Gen = Gen} {T = T} number []
   nothing_at_rest = of_indexes [] (λ k. refl)
 
-  -- A slot is written.
   pub set_at_rest : (slots : List (Option (Gen × RawLink K T))) (n : ℕ) (slot : Option (Gen × RawLink K T)) → IsEmpty number slot → StayAtRest number slots (with_slot slots n slot)
   set_at_rest slots zero slot empty rest = rest
   set_at_rest slots (suc k) slot empty rest = of_indexes (slice_set slots k slot) (λ j. index-set slots k j slot empty (λ i. rest.none (suc i)))
 
-  -- A link is inserted.
   pub inserted_at_rest : (freed : List ℕ) (slots : List (Option (Gen × RawLink K T))) (g : Gen) (link : RawLink K T) → IsAtRest number link → StayAtRest number slots (slots_after_insertion freed slots (g, link))
   inserted_at_rest [] slots g link rests rest = of_indexes (slots ++ Some (g, link) ∷ []) (λ j. index-append slots j (Some (g, link)) rests (λ i. rest.none (suc i)))
   inserted_at_rest (i ∷ freed) slots g link rests rest = set_at_rest slots i (Some (g, link)) rests rest
 
-  -- A stored link has no destination.
   pub stored_at_rest : (slots : List (Option (Gen × RawLink K T))) (n : ℕ) (link : RawLink K T) → option_map (λ (e : Gen × RawLink K T). e.1) (slot_at slots n) ≡ Some link → AreAtRest number slots → IsAtRest number link
   stored_at_rest slots n link stored rest = by (slot_at slots n) stored (rest.none n)
     where
@@ -53,7 +48,6 @@ module _ {Gen K T : Type 0} (number : K → Option ℕ) where
       by None is empty = absurd (let h = is in cc)
       by (Some e) is empty = subst (IsAtRest number) (let h = is in let same : e.1 ≡ link = cc in same) empty
 
-  -- A stored link is overwritten by one with the same destination.
   pub written_at_rest : (slots : List (Option (Gen × RawLink K T))) (n : ℕ) (link w : RawLink K T) → option_map (λ (e : Gen × RawLink K T). e.1) (slot_at slots n) ≡ Some link → number w.destination ≡ number link.destination
       → StayAtRest number slots (with_slot slots n (option_map (λ (e : Gen × RawLink K T). (e.0, w)) (slot_at slots n)))
   written_at_rest slots n link w stored same rest = set_at_rest slots n (option_map (λ (e : Gen × RawLink K T). (e.0, w)) (slot_at slots n)) (by (slot_at slots n)) rest
@@ -66,11 +60,9 @@ module _ {Gen K T : Type 0} (number : K → Option ℕ) where
   with_generation g None empty = refl
   with_generation g (Some e) empty = empty
 
-  -- The generation of a link is set.
   pub renewed_at_rest : (slots : List (Option (Gen × RawLink K T))) (n : ℕ) (g : Gen) → StayAtRest number slots (with_slot slots n (option_map (λ (e : Gen × RawLink K T). (g, e.1)) (slot_at slots n)))
   renewed_at_rest slots n g rest = set_at_rest slots n (option_map (λ (e : Gen × RawLink K T). (g, e.1)) (slot_at slots n)) (with_generation g (slot_at slots n) (rest.none n)) rest
 
-  -- Two slots are swapped, and a link gets a generation.
   pub placed_at_rest : (slots : List (Option (Gen × RawLink K T))) (from to : ℕ) (g : Gen) → StayAtRest number slots (with_slot (with_slot slots from (slot_at slots to)) to (option_map (λ (e : Gen × RawLink K T). (g, e.1)) (slot_at slots from)))
   placed_at_rest slots from to g rest =
       set_at_rest (with_slot slots from (slot_at slots to)) to (option_map (λ (e : Gen × RawLink K T). (g, e.1)) (slot_at slots from)) (with_generation g (slot_at slots from) (rest.none from))

@@ -24,12 +24,10 @@ module _ {Gen T : Type 0} where
   are_stored-right entry [] ys a = a
   are_stored-right entry (x ∷ xs) ys a = are_stored-right entry xs ys a.1
 
-  -- Items stay stored if nothing at their indexes has changed.
   pub are_stored-frame : (old new : ℕ → Option (Gen × T)) (xs : List (Item Gen T)) → ((i : ℕ) → IsMember (indexes xs) i → new i ≡ old i) → AreEntries old xs → AreEntries new xs
   are_stored-frame old new [] same s = tt
   are_stored-frame old new (x ∷ xs) same s = (same x.0.0 (inl refl) ∙ s.0, are_stored-frame old new xs (λ i has. same i (inr has)) s.1)
 
-  -- The items in reverse, before others.
   pub are_stored-reversed : (entry : ℕ → Option (Gen × T)) (xs ys : List (Item Gen T)) → AreEntries entry xs → AreEntries entry ys → AreEntries entry (reverse_aux xs ys)
   are_stored-reversed entry [] ys a b = b
   are_stored-reversed entry (x ∷ xs) ys a b = are_stored-reversed entry xs (x ∷ ys) a.1 (a.0, b)
@@ -38,13 +36,11 @@ module _ {Gen T : Type 0} where
   indexes-reversed [] ys = refl
   indexes-reversed (x ∷ xs) ys = indexes-reversed xs (x ∷ ys)
 
-  -- Valid pointers to one index are the same.
   pub same_pointer : (entry : ℕ → Option (Gen × T)) (p q : ℕ × Gen) → IsValid entry p → IsValid entry q → p.0 ≡ q.0 → p ≡ q
   same_pointer entry p q one two same =
       let there : Some (p.1, one.value) ≡ Some (q.1, two.value) = sym one.stored ∙ (ap entry same ∙ two.stored) in
       ap (λ (i : ℕ). (i, p.1)) same ∙ ap (λ (e : Gen × T). (q.0, e.0)) (one_some there)
 
-  -- An item is its index and its entry.
   abbrev item_of : ℕ → Gen × T → Item Gen T
   item_of i e = ((i, e.0), e.1)
 
@@ -54,7 +50,6 @@ module _ {Gen T : Type 0} where
   same_item : (x y : Item Gen T) → x.0.0 ≡ y.0.0 → entry_of x ≡ entry_of y → x ≡ y
   same_item x y index there = ap (λ (i : ℕ). item_of i (entry_of x)) index ∙ ap (item_of y.0.0) there
 
-  -- Stored items at the same indexes are the same.
   pub same_items : (entry : ℕ → Option (Gen × T)) (xs ys : List (Item Gen T)) → AreEntries entry xs → AreEntries entry ys → indexes xs ≡ indexes ys → xs ≡ ys
   same_items entry [] [] a b same = refl
   same_items entry [] (y ∷ ys) a b same = absurd (cc)
@@ -65,7 +60,6 @@ module _ {Gen T : Type 0} where
       let first : x ≡ y = same_item x y index (one_some (sym a.0 ∙ (ap entry index ∙ b.0))) in
       ap (λ (l : List (Item Gen T)). x ∷ l) (same_items entry xs ys a.1 b.1 rest) ∙ ap (λ (e : Item Gen T). e ∷ ys) first
 
-  -- The item of a valid pointer is among stored items that have its index.
   pub item_among : (entry : ℕ → Option (Gen × T)) (xs : List (Item Gen T)) (p : ℕ × Gen) → AreEntries entry xs → IsValid entry p → IsMember (indexes xs) p.0
       → (before : List (Item Gen T)) × (t : T) × (after : List (Item Gen T)) × (xs ≡ before ++ (p, t) ∷ after)
   item_among entry [] p s valid has = absurd has
@@ -76,7 +70,6 @@ module _ {Gen T : Type 0} where
       let more = item_among entry xs p s.1 valid has in
       (x ∷ more.0, more.1, more.2, ap (λ (l : List (Item Gen T)). x ∷ l) more.3)
 
-  -- The index of a stored item is occupied.
   pub are_stored-some : (entry : ℕ → Option (Gen × T)) (xs : List (Item Gen T)) (i : ℕ) → AreEntries entry xs → IsMember (indexes xs) i → is_some (entry i) ≡ true
   are_stored-some entry [] i s has = absurd has
   are_stored-some entry (x ∷ xs) i s (inl is) = ap (λ k. is_some (entry k)) (sym is) ∙ ap is_some s.0
@@ -91,7 +84,6 @@ module _ {Gen T : Type 0} where
   pub among-parts : (before after : List (Item Gen T)) (i : ℕ) → IsMember (indexes (before ++ after)) i → IsMember (indexes before) i ⊎ IsMember (indexes after) i
   among-parts before after i has = IsMember-parts (indexes before) (indexes after) i (subst (λ (l : List ℕ). IsMember l i) (map-append index_of before after) has)
 
-  -- A nonempty list has a last item.
   pub last_apart : (e : Item Gen T) (es : List (Item Gen T)) → (before : List (Item Gen T)) × (last : Item Gen T) × (e ∷ es ≡ before ++ last ∷ [])
   last_apart e [] = ([], e, refl)
   last_apart e (f ∷ fs) =
@@ -101,27 +93,23 @@ module _ {Gen T : Type 0} where
   pub last_is : (before : List (Item Gen T)) (e : Item Gen T) → last_key (before ++ e ∷ []) ≡ Some e.0
   last_is before e = ap first_key (reverse-append before (e ∷ []))
 
-  -- An item before others changes nothing about the last.
   pub last_key-cons : (e f : Item Gen T) (fs : List (Item Gen T)) → last_key (f ∷ fs) ≡ last_key (e ∷ f ∷ fs)
   last_key-cons e f fs =
       let last = last_apart f fs in
       ap last_key last.2 ∙ (last_is last.0 last.1 ∙ sym (ap (λ (l : List (Item Gen T)). last_key (e ∷ l)) last.2 ∙ last_is (e ∷ last.0) last.1))
 
-  -- The index of `e` differs from those of all other items.
   pub apart : (before : List (Item Gen T)) (e : Item Gen T) (after : List (Item Gen T)) → AreDistinct (indexes (before ++ e ∷ after))
       → (IsMember (indexes (before ++ after)) e.0.0 → ⊥) × AreDistinct (indexes (before ++ after))
   apart before e after once =
       let both = (once_in_middle (indexes before) (indexes after) e.0.0).0 (subst AreDistinct (map-append index_of before (e ∷ after)) once) in
       (λ has. both.0 (subst (λ (l : List ℕ). IsMember l e.0.0) (map-append index_of before after) has), subst AreDistinct (sym (map-append index_of before after)) both.1)
 
-  -- An insertion at a free index keeps the stored items.
   pub stored_kept : (entry after : ℕ → Option (Gen × T)) (p : ℕ × Gen) → entry p.0 ≡ None → ((i : ℕ) → i ≢ p.0 → after i ≡ entry i) → (xs : List (Item Gen T)) → AreEntries entry xs → AreEntries after xs
   stored_kept entry after p free rest xs s = are_stored-frame entry after xs (λ i has. rest i (λ is. not_among (subst (λ (k : ℕ). IsMember (indexes xs) k) is has))) s
     where
       not_among : IsMember (indexes xs) p.0 → ⊥
       not_among has = let some = are_stored-some entry xs p.0 s has in let none = ap is_some free in let both = sym some ∙ none in cc
 
-  -- Entries sorted by index have distinct indexes.
   ascends_low : (from i : ℕ) (es : List (Item Gen T)) → AscendsFrom from es → IsMember (indexes es) i → from ≤ i
   ascends_low from i [] ascends has = absurd has
   ascends_low from i (e ∷ es) ascends (inl is) = omega (arith, ascends.0, is)

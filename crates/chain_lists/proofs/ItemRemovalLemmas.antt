@@ -9,7 +9,6 @@ use Rattle.chain_lists.specs.Lists.{RemovesItem}
 use Rattle.chain_lists.proofs.ListChangeLemmas.{leaves, keeps_left}
 
 module _ {A Gen T : Type 0} {view : A → ArenaView Gen T} {entry : A → ℕ → Option (Gen × T)} (state : (a : A) → ArenaState (view a) (entry a)) (interlinks : A → LinkMap) {P I W : Type 0} (pointers : PointerKind P I Gen W) (old new : A) (p : P) where
-  -- The item of `p` leaves its list, or `p` is not valid.
   pub removes_item : (shape : List ℕ → Chain) → ((xs : List ℕ) → items (shape xs) ≡ xs) → (o : Option T) → TakesEntry state interlinks pointers.following old new (pointers.key p) o
       → (Removes (interlinks old) (interlinks new) (pointers.key p).0 → (x y : List ℕ) → IsChain (interlinks old) (shape (x ++ (pointers.key p).0 ∷ y)) → x ++ y ≢ [] → IsChain (interlinks new) (shape (x ++ y)))
       → RemovesItem state interlinks shape pointers old p o new

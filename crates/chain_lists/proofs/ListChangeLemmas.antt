@@ -17,7 +17,6 @@ use Rattle.chain_lists.specs.Lists.{Item, AreEntries, indexes, IsListOf, KeepsWi
 use Rattle.chain_traits.proofs.GenericRemovalLemmas.{same_entry}
 use Rattle.chain_lists.proofs.ItemListLemmas.{are_stored-append, are_stored-left, are_stored-right, are_stored-frame, stored_kept}
 
--- A list without indexes is empty.
 pub no_items : {Gen T : Type 0} (xs : List (Item Gen T)) → indexes xs ≡ [] → xs ≡ []
 no_items [] none = refl
 no_items (x ∷ xs) none = absurd (cc)
@@ -27,7 +26,6 @@ members_once links (linear xs) is = is.1
 members_once links (cyclic xs) is = is.1
 
 module _ {A Gen T : Type 0} {view : A → ArenaView Gen T} {entry : A → ℕ → Option (Gen × T)} (state : (a : A) → ArenaState (view a) (entry a)) (interlinks : A → LinkMap) (shape : List ℕ → Chain) where
-  -- The indexes of a concatenation are those of both parts.
   pub parts : (a : A) (xs ys : List (Item Gen T)) → IsChain (interlinks a) (shape (indexes (xs ++ ys))) → IsChain (interlinks a) (shape (indexes xs ++ indexes ys))
   parts a xs ys = subst (λ (l : List ℕ). IsChain (interlinks a) (shape l)) (map-append index_of xs ys)
 
@@ -35,12 +33,10 @@ module _ {A Gen T : Type 0} {view : A → ArenaView Gen T} {entry : A → ℕ �
   whole a xs ys = subst (λ (l : List ℕ). IsChain (interlinks a) (shape l)) (sym (map-append index_of xs ys))
 
   module _ (old new : A) where
-    -- If all entries are kept, items form a list if their indexes form a chain.
     pub stays : entry new ≡ entry old → (xs : List (Item Gen T)) → AreEntries (entry old) xs → IsChain (interlinks new) (shape (indexes xs)) → IsListOf state interlinks shape new xs
     stays same xs are_stored chain = record { chain = chain; are_stored = subst (λ (f : ℕ → Option (Gen × T)). AreEntries f xs) (sym same) are_stored }
 
 module _ {A Gen T : Type 0} {view : A → ArenaView Gen T} {entry : A → ℕ → Option (Gen × T)} (state : (a : A) → ArenaState (view a) (entry a)) (interlinks : A → LinkMap) (shape : List ℕ → Chain) (written : (xs : List ℕ) → items (shape xs) ≡ xs) where
-  -- The indexes of a list are those of its chain.
   pub of_chain : (xs : List ℕ) (i : ℕ) → IsMember xs i → IsMember (items (shape xs)) i
   of_chain xs i = subst (λ (l : List ℕ). IsMember l i) (sym (written xs))
 
@@ -48,7 +44,6 @@ module _ {A Gen T : Type 0} {view : A → ArenaView Gen T} {entry : A → ℕ �
   once a xs is = subst AreDistinct (written xs) (members_once (interlinks a) (shape xs) is)
 
   module _ (old new : A) where
-    -- A removed item leaves its list.
     pub leaves : (e : Item Gen T) → ((i : ℕ) → i ≢ e.0.0 → entry new i ≡ entry old i)
         → ((x y : List ℕ) → IsChain (interlinks old) (shape (x ++ e.0.0 ∷ y)) → x ++ y ≢ [] → IsChain (interlinks new) (shape (x ++ y))) → IsRemovedFromList state interlinks shape old new e
     leaves e same shrinks before after is filled =
@@ -61,7 +56,6 @@ module _ {A Gen T : Type 0} {view : A → ArenaView Gen T} {entry : A → ℕ �
               (are_stored-append (entry old) before after (are_stored-left (entry old) before (e ∷ after) is.are_stored) (are_stored-right (entry old) before (e ∷ after) is.are_stored).1);
         }
 
-    -- A removal keeps every list without the removed item.
     pub keeps_left : (p : ℕ × Gen) → ((i : ℕ) → i ≢ p.0 → entry new i ≡ entry old i)
         → ((c : Chain) → (IsMember (items c) p.0 → ⊥) → IsChain (interlinks old) c → IsChain (interlinks new) c) → KeepsWithout state interlinks shape old new (p ∷ [])
     keeps_left p same rest xs absent is = record {
@@ -76,7 +70,6 @@ module _ {A Gen T : Type 0} {view : A → ArenaView Gen T} {entry : A → ℕ �
     kept : (xs : List (Item Gen T)) → AreEntries (entry old) xs → AreEntries (entry new) xs
     kept = stored_kept (entry old) (entry new) q gained.free gained.rest
 
-    -- An item inserted after `p` comes directly after it in its list.
     added_after : (p : ℕ × Gen) → ((x y : List ℕ) → IsChain (interlinks old) (shape (x ++ p.0 ∷ y)) → IsChain (interlinks new) (shape (x ++ p.0 ∷ q.0 ∷ y)))
         → InsertsAfter state interlinks shape old new p (q, t)
     added_after p grows s before after is =
@@ -87,7 +80,6 @@ module _ {A Gen T : Type 0} {view : A → ArenaView Gen T} {entry : A → ℕ �
               ((kept ((p, s) ∷ []) (right.0, tt)).0, (gained.stored, kept after right.1));
         }
 
-    -- An item inserted before `p` comes directly before it in its list.
     added_before : (p : ℕ × Gen) → ((x y : List ℕ) → IsChain (interlinks old) (shape (x ++ p.0 ∷ y)) → IsChain (interlinks new) (shape (x ++ q.0 ∷ p.0 ∷ y)))
         → InsertsBefore state interlinks shape old new p (q, t)
     added_before p grows s before after is = record {
@@ -96,7 +88,6 @@ module _ {A Gen T : Type 0} {view : A → ArenaView Gen T} {entry : A → ℕ �
           (gained.stored, kept ((p, s) ∷ after) (are_stored-right (entry old) before ((p, s) ∷ after) is.are_stored));
     }
 
-  -- The item is in its list, and lists without the links that the kind names are unchanged.
   item_inserted : (kind : InsertKind ℕ ℕ) (beside : List (ℕ × Gen)) (list_after : Type 0) → map (λ (p : ℕ × Gen). p.0) beside ≡ links_named (λ i. i) (λ i. i) kind
       → IsInsertedBetween state interlinks (link_before (λ i. i) (λ i. i) (interlinks old) kind q.0) (link_after (λ i. i) (λ i. i) (interlinks old) kind q.0) old t q new
       → list_after → IsItemInserted state interlinks shape old new list_after beside (q, t)
@@ -110,23 +101,19 @@ module _ {A Gen T : Type 0} {view : A → ArenaView Gen T} {entry : A → ℕ �
     };
   }
 
-  -- The item starts a list, if its kind names no link.
   pub item_started : (kind : InsertKind ℕ ℕ) → [] ≡ links_named (λ i. i) (λ i. i) kind
       → IsInsertedBetween state interlinks (link_before (λ i. i) (λ i. i) (interlinks old) kind q.0) (link_after (λ i. i) (λ i. i) (interlinks old) kind q.0) old t q new
       → IsChain (interlinks new) (shape (q.0 ∷ [])) → IsItemStarted state interlinks shape old new (q, t)
   item_started kind alone gained chain = item_inserted kind [] _ alone gained (record { chain = chain; are_stored = (gained.entries.stored, tt) })
 
-  -- The item comes directly after `p` in its list.
   pub item_after : (p : ℕ × Gen) → IsInsertedBetween state interlinks (Some p.0) (next_of (interlinks old) p.0) old t q new
       → ((x y : List ℕ) → IsChain (interlinks old) (shape (x ++ p.0 ∷ y)) → IsChain (interlinks new) (shape (x ++ p.0 ∷ q.0 ∷ y))) → IsItemAfter state interlinks shape old new p (q, t)
   item_after p gained grows = item_inserted (NextTo p.0) (p ∷ []) _ refl gained (added_after gained.entries p grows)
 
-  -- The item comes directly before `p` in its list.
   pub item_before : (p : ℕ × Gen) → IsInsertedBetween state interlinks (prev_of (interlinks old) p.0) (Some p.0) old t q new
       → ((x y : List ℕ) → IsChain (interlinks old) (shape (x ++ p.0 ∷ y)) → IsChain (interlinks new) (shape (x ++ q.0 ∷ p.0 ∷ y))) → IsItemBefore state interlinks shape old new p (q, t)
   item_before p gained grows = item_inserted (PrevTo p.0) (p ∷ []) _ refl gained (added_before gained.entries p grows)
 
--- If the view stays, so do the entries.
 pub changes_only : {A Gen T : Type 0} {view : A → ArenaView Gen T} {entry : A → ℕ → Option (Gen × T)} (state : (a : A) → ArenaState (view a) (entry a)) (interlinks : A → LinkMap) (shape : List ℕ → Chain) (old new : A) (pointers : List (ℕ × Gen))
     → KeepsWithout state interlinks shape old new pointers → view new ≡ view old → ChangesOnlyListsOf state interlinks shape old new pointers
 changes_only {Gen = Gen} {T = T} state interlinks shape old new pointers others same =

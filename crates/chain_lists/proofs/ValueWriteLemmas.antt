@@ -13,7 +13,6 @@ use Rattle.chain_lists.proofs.ItemListLemmas.{are_stored-append, are_stored-left
 use Rattle.chain_lists.proofs.ListChangeLemmas.{of_chain, once}
 
 module _ {Gen T : Type 0} where
-  -- Indexes and the first pointer are unchanged.
   pub indexes-written : (i : ℕ) (t : T) (es : List (Item Gen T)) → indexes (with_replacement i (valued t) es) ≡ indexes es
   indexes-written i t [] = refl
   indexes-written i t (e ∷ es) = ⊎_elim
@@ -28,7 +27,6 @@ module _ {Gen T : Type 0} where
       (λ other. ap first_key (writes_later i t e es other))
       (cases_eq e.0.0 i)
 
-  -- Lookup among stored items finds the entries.
   pub found-stored : (entry : ℕ → Option (Gen × T)) (i : ℕ) (es : List (Item Gen T)) → AreEntries entry es → IsMember (indexes es) i → found i es ≡ entry i
   found-stored entry i [] are_stored has = absurd has
   found-stored entry i (e ∷ es) are_stored has = ⊎_elim
@@ -56,7 +54,6 @@ module _ {Gen T : Type 0} where
     some_mapped None = refl
     some_mapped (Some e) = refl
 
-    -- The same indexes are occupied.
     pub some-written : (k : ℕ) → is_some (new k) ≡ is_some (old k)
     some-written k = ⊎_elim
         (λ is. ap (λ (n : ℕ). is_some (new n)) is ∙ (ap is_some there ∙ (some_mapped (old i) ∙ ap (λ (n : ℕ). is_some (old n)) (sym is))))
@@ -66,11 +63,9 @@ module _ {Gen T : Type 0} where
 -- A value written in an arena.
 module _ {A Gen T : Type 0} {view : A → ArenaView Gen T} {entry : A → ℕ → Option (Gen × T)} (state : (a : A) → ArenaState (view a) (entry a)) (interlinks : A → LinkMap)
     (shape : List ℕ → Chain) (written : (xs : List ℕ) → items (shape xs) ≡ xs) (a b : A) (i : ℕ) (t : T) (was : view b ≡ view_with_value (view a) i t) where
-  -- Items without the one at the index stay stored.
   elsewhere : (es : List (Item Gen T)) → (IsMember (indexes es) i → ⊥) → AreEntries (entry a) es → AreEntries (entry b) es
   elsewhere es other = are_stored-frame (entry a) (entry b) es (λ k has. values_elsewhere state a b i t was k (λ is_i. other (subst (IsMember (indexes es)) is_i has)))
 
-  -- The item of a list has the new value, and the others keep theirs.
   pub has_new_value : (g : Gen) → interlinks b ≡ interlinks a → HasNewValue state interlinks shape a b (i, g) t
   has_new_value g same = record {
     list = λ s before after is.

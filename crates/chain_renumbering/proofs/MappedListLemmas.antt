@@ -4,7 +4,6 @@ use Rattle.std.proofs.lemmas.List.{length-map, get_or-map}
 use Rattle.std.proofs.lemmas.List.Elements.{Contains-append_right}
 
 module _ {X Y : Type 0} (f : X → Y) where
-  -- A mapped list contains the image of each item.
   pub map_has : (xs : List X) (x : X) → Contains xs x → Contains (map f xs) (f x)
   map_has xs x has = (has.0, omega (arith, length-map xs f, has.1), get_or-map f xs has.0 x (f x) has.1 ∙ ap f has.2)
 
@@ -13,10 +12,8 @@ module _ {X Y : Type 0} (f : X → Y) where
   becomes (x ∷ xs) y zero below is = (x, (0, omega arith, refl), is)
   becomes (x ∷ xs) y (suc k) below is = let rest = becomes xs y k (omega (arith, below)) is in (rest.0, Contains-append_right (x ∷ []) xs rest.0 rest.1, rest.2)
 
-  -- A mapped list contains nothing else.
   pub map_has_of : (xs : List X) (y : Y) → Contains (map f xs) y → (x : X) × Contains xs x × (f x ≡ y)
   map_has_of xs y has = becomes xs y has.0 has.1 has.2
 
--- Mapping a list twice keeps its length.
 pub length_twice : {X Y Z : Type 0} (g : Y → Z) (f : X → Y) (xs : List X) (zs : List Z) → map g (map f xs) ≡ zs → length xs ≡ length zs
 length_twice g f xs zs is = sym (length-map xs f) ∙ (sym (length-map (map f xs) g) ∙ ap length is)

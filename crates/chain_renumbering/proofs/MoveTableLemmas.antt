@@ -13,7 +13,6 @@ use Rattle.arena_traits.proofs.ArenaViewLemmas.{length-with_slot}
 use Rattle.arena_traits.proofs.InsertionLemmas.{slot_at-written}
 use Rattle.chain_renumbering.specs.MoveTables.{stored_for, with_move, with_moves}
 
--- An empty table has no moves.
 none_stored : {X : Type 0} (n i : ℕ) → ◌≡◌ {A = Option X} (slot_at (replicate n None) i) None
 none_stored {X} n zero = refl
 none_stored {X} n (suc k) = by n k where
@@ -27,7 +26,6 @@ module _ {P Gen : Type 0} (key : P → ℕ × Gen) where
   abbrev pub from_index : P × P → ℕ
   from_index m = (key m.0).0
 
-  -- Writing move `i` gives the table of the first `i + 1` moves.
   pub note_more : (table : List (Option (Gen × P))) (moves : List (P × P)) (i k : ℕ) (g : Gen) (m : P × P) → i < length moves → m ≡ get_or moves i m → k + 1 ≡ (key m.0).0 → g ≡ (key m.0).1
       → slice_set (with_moves key table (take i moves)) k (Some (g, m.1)) ≡ with_moves key table (take (i + 1) moves)
   note_more table moves i k g m below is at at_generation =
@@ -51,25 +49,20 @@ module _ {P Gen : Type 0} (key : P → ℕ × Gen) where
     pub only : (i : ℕ) (e : Gen × P) → slot_at table i ≡ Some e → IsStoredFor moves i e
 
   module _ (n : ℕ) where
-    -- Writing a move keeps the table's length.
     stays : (table : List (Option (Gen × P))) (m : P × P) → length table ≡ n → length (with_move key table m) ≡ n
     stays table m long = length-with_slot table (from_index m) (Some (stored_for key m)) ∙ long
 
-    -- The written move is found at its index.
     there : (table : List (Option (Gen × P))) (m : P × P) → length table ≡ n → (1 ≤ from_index m) × (from_index m ≤ n) → slot_at (with_move key table m) (from_index m) ≡ Some (stored_for key m)
     there table m long within = slot_at-written table (from_index m) (from_index m) (Some (stored_for key m)) within.0 (omega (arith, long, within.1)) ∙ if_same (from_index m) (from_index m) _ _ refl
 
-    -- The rest of the table is unchanged.
     elsewhere : (table : List (Option (Gen × P))) (m : P × P) (i : ℕ) → length table ≡ n → (1 ≤ from_index m) × (from_index m ≤ n) → i ≢ from_index m → slot_at (with_move key table m) i ≡ slot_at table i
     elsewhere table m i long within other = slot_at-written table (from_index m) i (Some (stored_for key m)) within.0 (omega (arith, long, within.1)) ∙ if_other i (from_index m) _ _ other
 
-    -- An index that no move is from keeps its content.
     keeps : (table : List (Option (Gen × P))) (moves : List (P × P)) (i : ℕ) → length table ≡ n → HasPlaces n moves → (IsMember (map from_index moves) i → ⊥) → slot_at (with_moves key table moves) i ≡ slot_at table i
     keeps table [] i long within absent = refl
     keeps table (m ∷ moves) i long within absent =
         keeps (with_move key table m) moves i (stays table m long) within.1 (λ has. absent (inr has)) ∙ elsewhere table m i long within.0 (λ is. absent (inl (sym is)))
 
-    -- Each written move is found at its index.
     noted_has : (table : List (Option (Gen × P))) (moves : List (P × P)) (m : P × P) (k : ℕ) → length table ≡ n → HasPlaces n moves → AreDistinct (map from_index moves)
         → k < length moves → slice_index_or moves k m ≡ m → slot_at (with_moves key table moves) (from_index m) ≡ Some (stored_for key m)
     noted_has table [] m k long within apart below is = absurd (omega (arith, below))
@@ -80,7 +73,6 @@ module _ {P Gen : Type 0} (key : P → ℕ × Gen) where
     noted_has table (x ∷ moves) m (suc k) long within apart below is =
         noted_has (with_move key table x) moves m k (stays table x long) within.1 apart.1 (omega (arith, below)) is
 
-    -- Anything found was written, or was there before.
     noted_only : (table : List (Option (Gen × P))) (moves : List (P × P)) (i : ℕ) (e : Gen × P) → length table ≡ n → HasPlaces n moves → slot_at (with_moves key table moves) i ≡ Some e → (slot_at table i ≡ Some e) ⊎ IsStoredFor moves i e
     noted_only table [] i e long within is = inl is
     noted_only table (x ∷ moves) i e long within is =
@@ -92,7 +84,6 @@ module _ {P Gen : Type 0} (key : P → ℕ × Gen) where
             inr (x, (0, omega arith, refl), sym same, cc)
         by (no other) stored = inl (sym (elsewhere table x i long within.0 other) ∙ stored)
 
-    -- Writing moves into an empty table gives the table of these moves.
     pub noted_table : (moves : List (P × P)) → HasPlaces n moves → AreDistinct (map from_index moves) → IsTable moves (with_moves key (replicate n None) moves)
     noted_table moves within apart = record {
       has = λ m has. noted_has (replicate n None) moves m has.0 (length-replicate n None) within apart has.1 has.2;

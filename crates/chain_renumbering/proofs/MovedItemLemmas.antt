@@ -4,12 +4,10 @@ use Rattle.chain_lists.specs.Lists.{Item}
 use Rattle.chain_renumbering.specs.Renumbering.{Moves, AreItemsMoved}
 
 module _ {Gen T : Type 0} (move : Moves Gen) where
-  -- No items move to none.
   pub none_moved : (after : List (Item Gen T)) → AreItemsMoved move [] after → after ≡ []
   none_moved [] moved = refl
   none_moved (f ∷ after) moved = absurd (cc)
 
-  -- The first item moves to the first, and the rest to the rest.
   pub head_moved : (e f : Item Gen T) (items after : List (Item Gen T)) → AreItemsMoved move (e ∷ items) (f ∷ after) → (move e.0 ≡ Some f.0) × (e.1 ≡ f.1)
   head_moved e f items after moved =
       let first : ◌≡◌ {A = Option (ℕ × Gen) × T} (move e.0, e.1) (Some f.0, f.1) = cc in
@@ -21,13 +19,11 @@ module _ {Gen T : Type 0} (move : Moves Gen) where
   pub cons_moved : (e f : Item Gen T) (items after : List (Item Gen T)) → move e.0 ≡ Some f.0 → e.1 ≡ f.1 → AreItemsMoved move items after → AreItemsMoved move (e ∷ items) (f ∷ after)
   cons_moved e f items after pointer value rest = ap₂ (λ (x : Option (ℕ × Gen) × T) (xs : List (Option (ℕ × Gen) × T)). x ∷ xs) (ap₂ (λ (p : Option (ℕ × Gen)) (t : T). (p, t)) pointer value) rest
 
-  -- A list that begins with an item moves to one that begins with the moved item.
   pub moved_cons : (e : Item Gen T) (items after : List (Item Gen T)) → AreItemsMoved move (e ∷ items) after
       → (f : Item Gen T) × (rest : List (Item Gen T)) × (after ≡ f ∷ rest) × (move e.0 ≡ Some f.0) × (e.1 ≡ f.1) × AreItemsMoved move items rest
   moved_cons e items [] moved = absurd (cc)
   moved_cons e items (f ∷ after) moved = let first = head_moved e f items after moved in (f, after, refl, first.0, first.1, tail_moved e f items after moved)
 
-  -- Two lists one after another move to two lists one after another.
   pub moved_append : (xs ys after : List (Item Gen T)) → AreItemsMoved move (xs ++ ys) after
       → (before : List (Item Gen T)) × (rest : List (Item Gen T)) × (after ≡ before ++ rest) × AreItemsMoved move xs before × AreItemsMoved move ys rest
   moved_append [] ys after moved = ([], after, refl, refl, moved)
@@ -44,7 +40,6 @@ module _ {Gen T : Type 0} (move : Moves Gen) where
       let first = head_moved e f xs before one in
       cons_moved e f (xs ++ ys) (before ++ rest) first.0 first.1 (append_moved xs ys before rest (tail_moved e f xs before one) two)
 
-  -- Items move to one list only.
   pub moved_once : (items one two : List (Item Gen T)) → AreItemsMoved move items one → AreItemsMoved move items two → one ≡ two
   moved_once [] one two first second = none_moved one first ∙ sym (none_moved two second)
   moved_once (e ∷ items) one two first second =
@@ -54,7 +49,6 @@ module _ {Gen T : Type 0} (move : Moves Gen) where
       let values : a.0.1 ≡ b.0.1 = sym a.4 ∙ b.4 in
       a.2 ∙ (ap₂ (λ (x : Item Gen T) (xs : List (Item Gen T)). x ∷ xs) (ap₂ (λ (p : ℕ × Gen) (t : T). (p, t)) pointers values) (moved_once items a.1 b.1 a.5 b.5) ∙ sym b.2)
 
--- Items whose values are mapped move as the items do.
 pub moved_map : {Gen T U : Type 0} (move : Moves Gen) (f : T → U) (items : List (Item Gen T)) (after : List (Item Gen U)) → AreItemsMoved move (map {B = Item Gen U} (λ e. (e.0, f e.1)) items) after
     → (rest : List (Item Gen T)) × (after ≡ map {B = Item Gen U} (λ e. (e.0, f e.1)) rest) × AreItemsMoved move items rest
 moved_map move f [] after moved = ([], none_moved move after moved, refl)

@@ -13,12 +13,10 @@ use Rattle.chain_renumbering.specs.Renumbering.{Moves, AreItemsMoved}
 use Rattle.chain_renumbering.proofs.MovedItemLemmas.{cons_moved}
 
 module _ {P Gen T : Type 0} (key : P → ℕ × Gen) (entry : ℕ → Option (Gen × T)) (to : ℕ → Option ℕ) (g : Gen) where
-  -- The pointer of the entry at an index has that index.
   index_there : (p : ℕ × Gen) (i : ℕ) (o : Option (Gen × T)) → Some p ≡ option_map (λ (e : Gen × T). (i, e.0)) o → p.0 ≡ i
   index_there p i None is = absurd (cc)
   index_there p i (Some e) is = let same : p ≡ (i, e.0) = cc in ap (λ (q : ℕ × Gen). q.0) same
 
-  -- Moves from indexes to their images agree with the renaming.
   pub moves_follow : (moves : List (P × P)) (is ks : List ℕ) → map (λ m. Some (key m.0)) moves ≡ map (ptr_at entry) is → map (λ m. key m.1) moves ≡ map (λ k. (k, g)) ks → AreImages to is ks
       → AllByRecursion (λ m. (to (key m.0).0 ≡ Some (key m.1).0) × ((key m.1).1 ≡ g)) moves
   moves_follow [] is ks from targets images = tt
@@ -35,7 +33,6 @@ module _ {P Gen T : Type 0} (key : P → ℕ × Gen) (entry : ℕ → Option (Ge
 
 module _ {Gen T : Type 0} (before after : ℕ → Option (Gen × T)) (move : Moves Gen) (to : ℕ → Option ℕ) (has : (p : ℕ × Gen) → IsValid before p → (q : ℕ × Gen) × (move p ≡ Some q))
     (values : (p q : ℕ × Gen) (t : T) → move p ≡ Some q → before p.0 ≡ Some (p.1, t) → after q.0 ≡ Some (q.1, t)) (go : (p q : ℕ × Gen) → move p ≡ Some q → to p.0 ≡ Some q.0) where
-  -- Stored items are moved to stored items at the images of their indexes.
   pub items_move : (items : List (Item Gen T)) → AreEntries before items → (moved : List (Item Gen T)) × AreItemsMoved move items moved × AreImages to (indexes items) (indexes moved) × AreEntries after moved
   items_move [] are_stored = ([], refl, tt, tt)
   items_move (e ∷ items) are_stored =
@@ -48,7 +45,6 @@ module _ {Gen T : Type 0} (before after : ℕ → Option (Gen × T)) (move : Mov
       )
 
 module _ {A Gen T : Type 0} {view : A → ArenaView Gen T} {entry : A → ℕ → Option (Gen × T)} (state : (a : A) → ArenaState (view a) (entry a)) (links : A → LinkMap) (old new : A) (move : Moves Gen) (to : ℕ → Option ℕ) where
-  -- If links are renamed and items move with them, each list keeps its items.
   pub list_moves : (shape : List ℕ → Chain) → ((is ks : List ℕ) → AreImages to is ks → IsImage to (shape is) (shape ks)) → IsRenaming to (links old) (links new)
       → (items : List (Item Gen T)) → IsListOf state links shape old items
       → (moved : List (Item Gen T)) × AreItemsMoved move items moved × AreImages to (indexes items) (indexes moved) × AreEntries (entry new) moved

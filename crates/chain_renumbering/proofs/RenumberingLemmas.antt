@@ -25,27 +25,22 @@ abbrev no_neighbors : Interlinks
 no_neighbors = record { prev = None; next = None }
 
 module _ {P Gen T : Type 0} (key : P → ℕ × Gen) (old new : Arena Gen (LinkView T)) (moves : List (P × P)) (moved : ArePointerMoves key (entry old) (entry new) moves) where
-  -- A valid pointer has the index of a slot.
   within : (p : ℕ × Gen) → IsValid (entry old) p → (1 ≤ p.0) × (p.0 ≤ length old.slots)
   within p valid =
       let inside = (slots-within (λ e. no_neighbors) (values_of old).slots).within p.0 (record { link = no_neighbors; links = ap (option_map (λ e. no_neighbors)) valid.stored }) in
       (inside.0, omega (arith, inside.1, length-with_each link_value old))
 
-  -- A table with an entry for each slot has one for each move.
   has_places : HasPlaces key (length old.slots) moves
   has_places = recursion_from_All _ moves (λ k d below. within (key (slice_index_or moves k d).0) (moved.values k d below).0)
 
-  -- The old indexes of the moves returned are within the table.
   pub fits : (known : List (P × P)) (count : ℕ) → known ≡ moves → count ≡ length old.slots → All (λ (m : P × P). (key m.0).0 ≤ count) known
   fits known count is long =
       subst (All (λ (m : P × P). (key m.0).0 ≤ count)) (sym is) (λ k d below. omega (arith, long, (within (key (slice_index_or moves k d).0) (moved.values k d below).0).1))
 
   module _ (first : Gen) (following : Gen → Gen) (layout : IsCanonicalLayout first following false (value_view old) (link_map old) (value_view new) (link_map new)) (all : AreAllMoves key (value_view old) (link_map old) new.counter moves) where
-    -- The layout and the moves have the same least-index order.
     same_order : all.indexes ≡ layout.indexes
     same_order = all.order.items ∙ (ap all_items (no_others (link_map old) all.order.chains layout.order.chains all.order.are layout.order.are) ∙ sym layout.order.items)
 
-    -- The moves agree with the renaming of indexes, and end at the counter.
     all_moved : All (λ (m : P × P). (place_in layout.indexes (key m.0).0 ≡ Some (key m.1).0) × ((key m.1).1 ≡ new.counter)) moves
     all_moved =
         subst (λ (is : List ℕ). All (λ (m : P × P). (place_in is (key m.0).0 ≡ Some (key m.1).0) × ((key m.1).1 ≡ new.counter)) moves) same_order
@@ -54,7 +49,6 @@ module _ {P Gen T : Type 0} (key : P → ℕ × Gen) (old new : Arena Gen (LinkV
         (place-numbers 1 all.indexes (subst AreDistinct (sym all.order.items) all.order.are.partition.once))))
 
     module _ (move : Moves Gen) (gives : GivesMoves key moves move) where
-      -- Each new pointer is that of the layout.
       placed : (p q : ℕ × Gen) → move p ≡ Some q → (place_in layout.indexes p.0 ≡ Some q.0) × (q.1 ≡ layout.generation)
       placed p q is =
           let m = gives.only p q is in
@@ -66,7 +60,6 @@ module _ {P Gen T : Type 0} (key : P → ℕ × Gen) (old new : Arena Gen (LinkV
       go : (p q : ℕ × Gen) → move p ≡ Some q → place_in layout.indexes p.0 ≡ Some q.0
       go p q is = (placed p q is).0
 
-      -- The links are renumbered, and `move` gives their new pointers.
       pub renumbered_by : IsRenumbered first following value_view entry link_map old new move
       renumbered_by = record {
         layout = layout;
@@ -83,7 +76,6 @@ module _ {P Gen T : Type 0} (key : P → ℕ × Gen) (old new : Arena Gen (LinkV
             (items_move (entry old) (entry new) move (place_in layout.indexes) (valid_moves key (entry old) (entry new) moves moved move gives) (values_move key (entry old) (entry new) moves moved move gives) go items is.are_stored);
       }
 
-    -- A table of the moves renumbers.
     pub renumbered : (same : Gen → Gen → Bool) → ((g h : Gen) → (same g h ≡ true) ↔ (g ≡ h))
         → IsRenumbered first following value_view entry link_map old new (new_key_of key same (with_moves key (replicate (length old.slots) None) moves))
     renumbered same same_is_equal =

@@ -14,7 +14,6 @@ pub record GivesMoves {P Gen : Type 0} (key : P → ℕ × Gen) (moves : List (P
   pub only : (p q : ℕ × Gen) → move p ≡ Some q → (m : P × P) × Contains moves m × (key m.0 ≡ p) × (key m.1 ≡ q)
 
 module _ {P Gen : Type 0} (key : P → ℕ × Gen) (same : Gen → Gen → Bool) (same_is_equal : (g h : Gen) → (same g h ≡ true) ↔ (g ≡ h)) (moves : List (P × P)) (table : List (Option (Gen × P))) (is_table : IsTable key moves table) where
-  -- A table gives the moves that were written into it.
   pub table_gives : GivesMoves key moves (new_key_of key same table)
   table_gives = record { has = has; only = λ p q is. only p q (slot_at table p.0) refl is }
     where
@@ -35,17 +34,14 @@ module _ {P Gen : Type 0} (key : P → ℕ × Gen) (same : Gen → Gen → Bool)
         by false other found = absurd (cc)
 
 module _ {P Gen T : Type 0} (key : P → ℕ × Gen) (before after : ℕ → Option (Gen × T)) (moves : List (P × P)) (moved : ArePointerMoves key before after moves) (move : Moves Gen) (gives : GivesMoves key moves move) where
-  -- What is known of each move.
   move_keeps : (m : P × P) → Contains moves m → IsPointerMove key before after m
   move_keeps m has = All-contains (IsPointerMove key before after) moves m moved.values has
 
-  -- Each pointer that was valid has a new one.
   pub valid_moves : (p : ℕ × Gen) → IsValid before p → (q : ℕ × Gen) × (move p ≡ Some q)
   valid_moves p valid =
       let m = map_has_of (λ (m : P × P). key m.0) moves p (moved.old p valid) in
       (key m.0.1, ap move (sym m.2) ∙ gives.has m.0 m.1)
 
-  -- Exactly the pointers that were valid have a new one.
   pub moves_valid : (p : ℕ × Gen) → IsSome (move p) ↔ IsValid before p
   moves_valid p = (by (move p) refl, λ valid. let q = valid_moves p valid in subst (λ (o : Option (ℕ × Gen)). IsSome o) (sym q.1) refl)
     where
@@ -55,7 +51,6 @@ module _ {P Gen T : Type 0} (key : P → ℕ × Gen) (before after : ℕ → Opt
           let m = gives.only p q is in
           subst (IsValid before) m.2 (move_keeps m.0 m.1).0
 
-  -- The value of an old pointer is that of the new one.
   pub values_move : (p q : ℕ × Gen) (t : T) → move p ≡ Some q → before p.0 ≡ Some (p.1, t) → after q.0 ≡ Some (q.1, t)
   values_move p q t is stored =
       let m = gives.only p q is in
@@ -65,20 +60,17 @@ module _ {P Gen T : Type 0} (key : P → ℕ × Gen) (before after : ℕ → Opt
       let value : kept.1.value ≡ t = sym kept.2 ∙ ap (λ (x : Gen × T). x.1) pairs in
       sym (ap (λ (x : ℕ × Gen). after x.0) m.3) ∙ (kept.1.stored ∙ ap₂ (λ (g : Gen) (u : T). Some (g, u)) (ap (λ (x : ℕ × Gen). x.1) m.3) value)
 
-  -- Each pointer that is valid is a new one.
   pub moves_onto : (q : ℕ × Gen) → IsValid after q → (p : ℕ × Gen) × (move p ≡ Some q)
   moves_onto q valid =
       let m = map_has_of (λ (m : P × P). key m.1) moves q (moved.new q valid) in
       (key m.0.0, gives.has m.0 m.1 ∙ ap (λ (x : ℕ × Gen). Some x) m.2)
 
-  -- Valid pointers with one index are equal.
   one_at_index : (p r : ℕ × Gen) → IsValid before p → IsValid before r → p.0 ≡ r.0 → p ≡ r
   one_at_index p r one two index =
       let both : ◌≡◌ {A = Option (Gen × T)} (Some (p.1, one.value)) (Some (r.1, two.value)) = sym one.stored ∙ (ap before index ∙ two.stored) in
       let pairs : ◌≡◌ {A = Gen × T} (p.1, one.value) (r.1, two.value) = cc in
       ap₂ (λ (i : ℕ) (g : Gen). (i, g)) index (ap (λ (x : Gen × T). x.0) pairs)
 
-  -- If each index is moved as `to` states, which moves no two to one, no two have one new pointer.
   pub moves_apart : (to : ℕ → Option ℕ) → ((i j k : ℕ) → to i ≡ Some k → to j ≡ Some k → i ≡ j) → ((p q : ℕ × Gen) → move p ≡ Some q → to p.0 ≡ Some q.0)
       → (p r q : ℕ × Gen) → move p ≡ Some q → move r ≡ Some q → p ≡ r
   moves_apart to apart go p r q one two =

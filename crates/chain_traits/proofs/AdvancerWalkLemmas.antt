@@ -17,7 +17,6 @@ use Rattle.chain_traits.proofs.GenericArenaLemmas.{valid_some, valid_has, links_
 
 module _ {Gen T : Type 0} (interlinks : LinkMap) (entry : ℕ → Option (Gen × T)) (es : List ((ℕ × Gen) × T)) (stored : (i : ℕ) → is_some (interlinks i) ≡ is_some (entry i))
     (was_read : (i : ℕ) → found i es ≡ entry i) where
-  -- A walker with as many steps as entries passes the walk.
   pub passes_walk : (greatest i : ℕ) → IsWellLinked interlinks → All (λ e. IsWithin greatest (index_of e)) es → chains.HasLink interlinks i
       → IsWalk interlinks i (walk_ahead (length es) interlinks i (Some i) (prev_of interlinks i))
   passes_walk greatest i agrees within valid =
@@ -26,24 +25,20 @@ module _ {Gen T : Type 0} (interlinks : LinkMap) (entry : ℕ → Option (Gen ×
       let enough = subst (λ n. length walk.0 ≤ n) (length-map es index_of) (length_among walk.0 (map index_of es) (walk_once interlinks i walk.0 walk.1) (λ j has. valid_has interlinks entry es stored was_read j (walk_valid interlinks i walk.0 walk.1 j has))) in
       subst (IsWalk interlinks i) (sym (walk_passed (length es) interlinks i walk.0 walk.1 enough)) walk.1
 
-  -- A walk is over if no entry is at the first index left.
   pub walk_whole : (i : ℕ) (passed left : List ℕ) → IsWalk interlinks i (passed ++ left) → ((j : ℕ) (rest : List ℕ) → left ≡ j ∷ rest → entry j ≡ None) → IsWalk interlinks i passed
   walk_whole i passed [] walk none = subst (IsWalk interlinks i) (append-nil passed) walk
   walk_whole i passed (j ∷ rest) walk none =
       let valid = walk_valid interlinks i (passed ++ j ∷ rest) walk j (IsMember-right passed (j ∷ rest) j (inl refl)) in
       absurd (let some = valid_some interlinks entry es stored was_read j valid in let no = none j rest refl in let both = sym some ∙ ap is_some no in cc)
 
--- A last item comes before what is ahead.
 passed_last : {Q : Type 0} (name : Q → ℕ) (all : List Q) (q : Q) (ahead : List ℕ) → map name (all ++ q ∷ []) ++ ahead ≡ map name all ++ name q ∷ ahead
 passed_last name [] q ahead = refl
 passed_last name (x ∷ all) q ahead = ap (λ l. name x ∷ l) (passed_last name all q ahead)
 
--- A step moves its link from ahead to passed.
 pub passed_on : {Q : Type 0} (name : Q → ℕ) (links : LinkMap) (old new : Walker) (all after : List Q) (q : Q) (whole : List ℕ) → map name all ++ passes_ahead links old ≡ whole → after ≡ all ++ q ∷ []
     → step_of links old ≡ Some (name q, new) → map name after ++ passes_ahead links new ≡ whole
 passed_on name links old new all after q whole before is step =
     ap (λ l. map name l ++ passes_ahead links new) is ∙ (passed_last name all q (passes_ahead links new) ∙ (ap (λ l. map name all ++ l) (sym (step_ahead links old new (name q) step)) ∙ before))
 
--- A property of each item and a last item holds of all.
 pub all_with_last : {Q : Type 0} (P : Q → Type 0) (all after : List Q) (q : Q) → All P all → after ≡ all ++ q ∷ [] → P q → All P after
 all_with_last P all after q holds is last = subst (All P) (sym is) (All-append P all (q ∷ []) holds (All-cons P q [] last (All-nil P)))

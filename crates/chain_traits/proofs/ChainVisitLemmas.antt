@@ -15,11 +15,9 @@ use Rattle.chain_laws.proofs.ListLemmas.Members.{IsMember-left, IsMember-right, 
 use Rattle.chain_traits.specs.ChainVisits.{LinkVisit, IsLinkVisit, VisitsWalk, IsChainVisited}
 
 module _ {X Y : Type 0} where
-  -- Two maps that agree on a list and on a last item.
   push_alike : (f h : X → Y) (xs : List X) (x : X) → map f xs ≡ map h xs → f x ≡ h x → map f (xs ++ x ∷ []) ≡ map h (xs ++ x ∷ [])
   push_alike f h xs x same last = map-append f xs (x ∷ []) ∙ (ap₂ (λ (l : List Y) (y : Y). l ++ y ∷ []) same last ∙ sym (map-append h xs (x ∷ [])))
 
-  -- Functions of an index that agree at the indexes of a list.
   alike_at : (at : X → ℕ) (f h : ℕ → Y) (xs : List X) → ((i : ℕ) → IsMember (map at xs) i → f i ≡ h i) → map (λ x. f (at x)) xs ≡ map (λ x. h (at x)) xs
   alike_at at f h [] same = refl
   alike_at at f h (x ∷ xs) same = ap₂ (λ (y : Y) (l : List Y). y ∷ l) (same (at x) (inl refl)) (alike_at at f h xs (λ i has. same i (inr has)))
@@ -28,7 +26,6 @@ module _ {X Y : Type 0} where
   map_twice at f [] = refl
   map_twice at f (x ∷ xs) = ap (λ (l : List Y). f (at x) ∷ l) (map_twice at f xs)
 
--- A write keeps all keys.
 keys-written : {Gen T : Type 0} (i : ℕ) (t : T) (es : List ((ℕ × Gen) × T)) → map (λ e. e.0) (with_replacement i (valued t) es) ≡ map (λ e. e.0) es
 keys-written i t [] = refl
 keys-written {Gen} {T} i t (e ∷ es) = ⊎_elim
@@ -66,7 +63,6 @@ module _ {A Gen T : Type 0} {view : A → ArenaView Gen T} {entry : A → ℕ �
     unvisited : IsMember (map index is.visits) k → ⊥
     unvisited has = AreDistinct-apart (map index is.visits) (k ∷ left) k (subst (λ (l : List ℕ). AreDistinct (map index is.visits ++ l)) step (subst AreDistinct (sym is.parts) once)) has (inl refl)
 
-    -- The index of an earlier visit is another one.
     other : (i : ℕ) → IsMember (map index is.visits) i → i ≢ k
     other i has same = unvisited (subst (IsMember (map index is.visits)) same has)
 
@@ -92,7 +88,6 @@ module _ {A Gen T : Type 0} {view : A → ArenaView Gen T} {entry : A → ℕ �
           ∙ ap (λ (es : List ((ℕ × Gen) × T)). record (view old) { entries = es }) (ap (λ (s : ArenaView Gen T). s.entries) (sym written)));
     }
 
-  -- Nothing is ahead.
   pub chain_visited : (first : F) (old : A) (i : ℕ) (whole : List ℕ) (f : F) (now : A) (ahead : List ℕ) (is : IsVisiting first old whole f now ahead) → IsWalk (interlinks old) i (map (λ v. (key v.ptr).0) is.visits)
       → IsChainVisited state interlinks g key first old i now
   chain_visited first old i whole f now ahead is walk =
@@ -145,7 +140,6 @@ module _ {F P T Gen : Type 0} (g : Mut F (P × (MutBor T × Unit {0})) (Unit {0}
   each_written f walk keeps made i has = written_at made.visits f made.last keeps made.in_turn (made.before ∙ ap (map old) (sym made.indexes)) (made.after ∙ ap (map new) (sym made.indexes)) i
       (subst (λ (l : List ℕ). IsMember l i) (sym made.indexes) has)
 
--- A closure that applies a function to each value, and stays as it was, applies it along the walk.
 pub each_mapped : {F P T Gen : Type 0} (g : Mut F (P × (MutBor T × Unit {0})) (Unit {0} × (MutBor T × Unit {0}))) (key : P → ℕ × Gen) (h : T → T) (f : F)
     → ((v : LinkVisit P T) (next : F) → IsLinkVisit g f v next → (v.left ≡ h v.value) × (next ≡ f)) → (old new : ℕ → Option (Gen × T)) (walk : List ℕ)
     → VisitsWalk g key f old new walk → (i : ℕ) → IsMember walk i → new i ≡ option_map (λ e. (e.0, h e.1)) (old i)

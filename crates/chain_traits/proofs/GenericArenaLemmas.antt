@@ -18,7 +18,6 @@ use Rattle.arena_traits.specs.declared.cursor.Cursor.TheVariants.{Up}
 use Rattle.chain_links.proofs.OccupiedIndexLemmas.{found_has}
 
 module _ {Gen T : Type 0} where
-  -- Entries that rise from an index are at or above it.
   pub entries_at_or_above-ascends : (i j : ℕ) (es : List ((ℕ × Gen) × T)) → i ≤ j → AscendsFrom j es → entries_at_or_above i es ≡ es
   entries_at_or_above-ascends i j [] below ascends = refl
   entries_at_or_above-ascends i j (e ∷ es) below ascends = ap (λ b. cond b (e ∷ es) (entries_at_or_above i es)) (le-leb i e.0.0 (omega (arith, below, ascends.0)))
@@ -28,7 +27,6 @@ module _ {Gen T : Type 0} where
   has_within greatest i (e ∷ es) within (inl same) = subst (IsWithin greatest) same within.0
   has_within greatest i (e ∷ es) within (inr has) = has_within greatest i es within.1 has
 
-  -- No entry is found below where the entries begin.
   pub found_from : (from j : ℕ) (es : List ((ℕ × Gen) × T)) → AscendsFrom from es → is_some (found j es) ≡ true → from ≤ j
   found_from from j [] ascends some = absurd (let h = some in cc)
   found_from from j (e ∷ es) ascends some = by (e.0.0 == j) refl some (found_from (suc e.0.0) j es ascends.1) where
@@ -50,14 +48,12 @@ module _ {Gen T : Type 0} where
         low = λ j some. found_from e.0.0 j (e ∷ es) (le_refl e.0.0, ascends.1) some;
       })
 
-  -- An advancer from where the entries begin returns the first.
   pub next_is : (es : List ((ℕ × Gen) × T)) (lookup after : Cursor) (from : ℕ) (p : ℕ × Gen) → lookup ≡ Up from → AscendsFrom from es → IsAdvance es lookup (Some p) after
       → IsLeast es p.0 × (after ≡ Up (p.0 + 1))
   next_is es lookup after from p up ascends given =
       let at = subst (λ (l : Cursor). IsAdvance es l (Some p) after) up given in
       (first_least from p es ascends (at.first ∙ ap first_key (entries_at_or_above-ascends from from es (le_refl from) ascends)), at.moves)
 
-  -- Without a first key there are no entries.
   no_first : (es : List ((ℕ × Gen) × T)) → None ≡ first_key es → es ≡ []
   no_first [] none = refl
   no_first (e ∷ es) none = cc
@@ -75,7 +71,6 @@ module _ {Gen T : Type 0} (interlinks : LinkMap) (entry : ℕ → Option (Gen ×
   pub valid_has : (i : ℕ) → chains.HasLink interlinks i → IsMember (map index_of es) i
   valid_has i valid = found_has i es (ap is_some (was_read i) ∙ valid_some i valid)
 
-  -- A link exists where an entry does.
   pub some_valid : (i : ℕ) → is_some (entry i) ≡ true → chains.HasLink interlinks i
   some_valid i there = by (interlinks i) refl (stored i ∙ there) where
     by : (o : Option Interlinks) → interlinks i ≡ o → is_some (interlinks i) ≡ true → chains.HasLink interlinks i
@@ -85,7 +80,6 @@ module _ {Gen T : Type 0} (interlinks : LinkMap) (entry : ℕ → Option (Gen ×
   pub entry_valid : (i : ℕ) (e : Gen × T) → entry i ≡ Some e → chains.HasLink interlinks i
   entry_valid i e there = some_valid i (ap is_some there)
 
-  -- The link of a valid pointer exists.
   pub valid_link : (p : ℕ × Gen) → IsValid entry p → chains.HasLink interlinks p.0
   valid_link p valid = entry_valid p.0 (p.1, valid.value) valid.stored
 
@@ -93,7 +87,6 @@ module _ {Gen T : Type 0} (interlinks : LinkMap) (entry : ℕ → Option (Gen ×
     pub links_within : chains.HasLinksWithin interlinks greatest
     links_within = record { within = λ j v. has_within greatest j es (recursion_from_All _ es within) (valid_has j v) }
 
-    -- A walk back makes fewer steps than there are entries.
     pub few_back : (i steps here : ℕ) → IsWellLinked interlinks → is_some (entry i) ≡ true → IsBack interlinks i steps here → steps < length es
     few_back i steps here agrees there back =
         subst (λ n. steps < n) (length-map es index_of) (back_is_short interlinks greatest i steps here (map index_of es) agrees links_within (some_valid i there) valid_has back)

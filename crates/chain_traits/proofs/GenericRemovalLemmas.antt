@@ -14,7 +14,6 @@ use Rattle.arena_traits.specs.CallOutcomes.{IsEntryRemoved, RemovesEntry}
 use Rattle.arena_traits.proofs.EntryChangeLemmas.{entry_gone, entry_kept}
 
 module _ {Gen T : Type 0} where
-  -- A removal leaves one entry less.
   pub one_less : (i : ℕ) (es : List ((ℕ × Gen) × T)) → is_some (found i es) ≡ true → suc (length (without_index i es)) ≡ length es
   one_less i [] some = absurd (let h = some in cc)
   one_less i (e ∷ es) some = by (e.0.0 == i) refl some (one_less i es)
@@ -24,7 +23,6 @@ module _ {Gen T : Type 0} where
       by true same some rest = refl
       by false other some rest = ap suc (rest some)
 
--- Equal entries are found alike at each index.
 pub same_entry : {A Gen T : Type 0} {view : A → ArenaView Gen T} {entry : A → ℕ → Option (Gen × T)} (state : (a : A) → ArenaState (view a) (entry a)) (a b : A) → (view b).entries ≡ (view a).entries → entry b ≡ entry a
 same_entry state a b same = λ k i. (sym ((state b).finds i) ∙ (ap (found i) same ∙ (state a).finds i)) k
 

@@ -26,7 +26,6 @@ module _ {Gen T : Type 0} (entry : ℕ → Option (Gen × T)) where
   pub arrange_rest : (p : ℕ × Gen) (order : List (ℕ × Gen)) → CanPutInOrder entry (p ∷ order) → CanPutInOrder entry order
   arrange_rest p order can = record { valid = All-tail (IsValid entry) p order can.valid; apart = can.apart.1 }
 
-  -- The second may be moved after the first.
   pub can_move_second : (p q : ℕ × Gen) (order : List (ℕ × Gen)) → CanPutInOrder entry (p ∷ q ∷ order) → CanMove entry q p
   can_move_second p q order can = record {
     first_valid = arrange_first q order (arrange_rest p (q ∷ order) can);
@@ -34,11 +33,9 @@ module _ {Gen T : Type 0} (entry : ℕ → Option (Gen × T)) where
     apart = λ e. can.apart.0 (ap (λ i. Some i) e);
   }
 
--- An item of a list, and the rest after it.
 pub at_item : {P : Type 0} (followers : List P) (i : ℕ) (q : P) → i < length followers → q ≡ get_or followers i q → drop i followers ≡ q ∷ drop (i + 1) followers
 at_item followers i q low is = at_drop_more (λ l. l) followers i q low ∙ ap (λ p. p ∷ drop (i + 1) followers) (sym is)
 
--- After the last item only the one before is left.
 pub tested_all : {Gen T P : Type 0} (entry : ℕ → Option (Gen × T)) (key : P → ℕ × Gen) (whole : Type 0) (before : P) (followers : List P) (i : ℕ) → length followers ≤ i
     → (CanPutInOrder entry (map key (before ∷ drop i followers)) ↔ whole) → IsValid entry (key before) → whole
 tested_all entry key whole before followers i end same valid =
@@ -72,7 +69,6 @@ module _ {Gen T P : Type 0} (entry : ℕ → Option (Gen × T)) (key : P → ℕ
       let can = can_move_second entry (key before) (key q) _ (subst (CanPutInOrder entry) here (same.1 all)) in
       can.apart (wrong can.first_valid)
 
--- An arena with the same entries.
 same_order : {Gen T : Type 0} (entry other : ℕ → Option (Gen × T)) (order : List (ℕ × Gen)) → ((i : ℕ) → other i ≡ entry i) → CanPutInOrder entry order → CanPutInOrder other order
 same_order entry other order same can = record {
   valid = λ k d low. let here = can.valid k d low in record { value = here.value; stored = same _ ∙ here.stored };
@@ -95,7 +91,6 @@ module _ {A Gen T P : Type 0} {view : A → ArenaView Gen T} {entry : A → ℕ 
   same_entry : (old new : A) → view new ≡ view old → (i : ℕ) → entry new i ≡ entry old i
   same_entry old new same i = sym ((state new).finds i) ∙ ap (λ (v : ArenaView Gen T). found i v.entries) same ∙ (state old).finds i
 
-  -- The next one is moved.
   pub puts_next : (start now next : A) (first before q : P) (followers left : List P) (done : Option Unit) → IsPutting start now first before followers (q ∷ left)
       → MovesLinkAfter state interlinks key now q before done next → OnSome done (moves now q before next) → IsPutting start next first q followers left
   puts_next start now next first before q followers left None at not_moved implementation = absurd (not_moved (can_move_second (entry now) (key before) (key q) (map key left) at.can))
@@ -106,12 +101,10 @@ module _ {A Gen T P : Type 0} {view : A → ArenaView Gen T} {entry : A → ℕ 
     moved = λ end later. at.moved end (next, implementation, later);
   }
 
-  -- None is left.
   pub put : (start now : A) (first before : P) (followers : List P) → IsPutting start now first before followers []
       → (interlinks now ≡ with_followers (interlinks start) (index first) (map index followers)) × (view now ≡ view start) × AreMovedAfter moves start first followers now
   put start now first before followers at = (at.links, at.same_view, at.moved now refl)
 
-  -- All links are moved.
   pub is_put : (old new : A) (order : List P) → ((i : ℕ) → is_some (interlinks old i) ≡ is_some (entry old i)) → IsWellLinked (interlinks old) → CanPutInOrder (entry old) (map key order)
       → interlinks new ≡ with_order (interlinks old) (map index order) → view new ≡ view old → IsPutInOrder state interlinks old new (map index order)
   is_put old new order stored agrees can links same = record {

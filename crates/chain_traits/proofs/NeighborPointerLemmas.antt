@@ -7,7 +7,6 @@ use Rattle.arena_traits.specs.Arena.{IsValid}
 use Rattle.chain_links.specs.ChainArena.{ptr_at}
 
 module _ {P Gen T : Type 0} (key : P → ℕ × Gen) (entry : ℕ → Option (Gen × T)) where
-  -- A pointer to an index is that of the entry there.
   points : (q : ℕ × Gen) (j : ℕ) (e : Option (Gen × T)) → entry j ≡ e → Some q ≡ option_map (λ x. (j, x.0)) e → IsValid entry q × (j ≡ q.0)
   points q j None stored is = absurd (let some = is in cc)
   points q j (Some e) stored is =
@@ -15,13 +14,11 @@ module _ {P Gen T : Type 0} (key : P → ℕ × Gen) (entry : ℕ → Option (Ge
       let same : q ≡ (j, e.0) = cc in
       (record { value = e.1; stored = subst (λ p. entry p.0 ≡ Some (p.1, e.1)) (sym same) stored }, sym (ap (λ p. p.0) same))
 
-  -- A pointer to a neighbor is valid, and has its index.
   pub was_read : (o : Option P) (n : Option ℕ) → option_map key o ≡ option_and_then (ptr_at entry) n → IfSome o (λ q. IsValid entry (key q) × (n ≡ Some (key q).0))
   was_read None n is = tt
   was_read (Some q) None is = absurd (let some = is in cc)
   was_read (Some q) (Some j) is = let found = points (key q) j (entry j) refl is in (found.0, ap (λ i. Some i) found.1)
 
-  -- Without a pointer there is no neighbor, if each neighbor has an entry.
   pub none_read : (o : Option P) (n : Option ℕ) → option_map key o ≡ option_and_then (ptr_at entry) n → ((j : ℕ) → n ≡ Some j → is_some (entry j) ≡ true) → o ≡ None → n ≡ None
   none_read o None is stored none = refl
   none_read (Some q) (Some j) is stored none = absurd (let some = none in cc)

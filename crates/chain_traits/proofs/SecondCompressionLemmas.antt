@@ -17,7 +17,6 @@ use Rattle.arena_traits.specs.Entries.{found, index_of}
 use Rattle.arena_traits.specs.Compressions.{values_in}
 use Rattle.chain_traits.specs.CompressionLaws.{SecondCompressionMovesNothing}
 
--- Runs of runs are the same runs.
 runs_in_runs : (k : ℕ) (chains : List Chain) → in_runs k (in_runs k chains) ≡ in_runs k chains
 runs_in_runs k [] = refl
 runs_in_runs k (linear xs ∷ chains) =
@@ -25,13 +24,11 @@ runs_in_runs k (linear xs ∷ chains) =
 runs_in_runs k (cyclic xs ∷ chains) =
     rw (length-range_with_len k (length xs)) (ap (λ cs. cyclic (range_with_len k (length xs)) ∷ cs) (runs_in_runs (k + length xs) chains))
 
--- The order of links in runs renames them to themselves.
 renamed_to_itself : (link_map : LinkMap) (chains : List Chain) → AreChains link_map (in_runs 1 chains) → IsRenaming (place_in (range_with_len 1 (length (all_items chains)))) link_map link_map
 renamed_to_itself link_map chains are =
     subst (λ (is : List ℕ). IsRenaming (place_in is) link_map link_map) (items_in_runs 1 chains)
     (runs_are_renumbered link_map link_map (in_runs 1 chains) are (subst (AreChains link_map) (sym (runs_in_runs 1 chains)) are))
 
--- Two least-index orders of the same links are equal.
 one_order : (link_map : LinkMap) (indexes others : List ℕ) → IsLeastIndexOrder link_map indexes → IsLeastIndexOrder link_map others → indexes ≡ others
 one_order link_map indexes others is also =
     is.items ∙ (ap all_items (no_others link_map is.chains also.chains is.are also.are) ∙ sym also.items)
@@ -49,7 +46,6 @@ module _ {Gen T : Type 0} where
   abbrev value_found : List ((ℕ × Gen) × T) → ℕ → Option T
   value_found es i = option_map (λ (e : Gen × T). e.1) (found i es)
 
-  -- A first entry of another index is not found.
   others_found : (e : (ℕ × Gen) × T) (es : List ((ℕ × Gen) × T)) (k n : ℕ) → e.0.0 < k → map (value_found (e ∷ es)) (range_with_len k n) ≡ map (value_found es) (range_with_len k n)
   others_found e es k zero below = refl
   others_found e es k (suc n) below = by (e.0.0 == k) refl (others_found e es (k + 1) n (omega (arith, below))) where
@@ -59,7 +55,6 @@ module _ {Gen T : Type 0} where
     by false other rest =
         let first : value_found (e ∷ es) k ≡ value_found es k = ap (λ (b : Bool). option_map (λ (e : Gen × T). e.1) (cond b (Some (e.0.1, e.1)) (found k es))) other in cc
 
-  -- Entries at consecutive indexes are found in order.
   values_found : (k : ℕ) (es : List ((ℕ × Gen) × T)) → map index_of es ≡ range_with_len k (length es)
       → map (value_found es) (range_with_len k (length es)) ≡ map (λ (t : T). Some t) (values_in es)
   values_found k [] are = refl

@@ -14,7 +14,6 @@ use Rattle.linked_lists.specs.LinkedLists.{IsItem, HasPlace, AllInLists}
 use Rattle.linked_lists.proofs.KeptItemLemmas.{kept_by_entries, kept_by_insertion, kept_by_value, removed_or_kept, removed_with_list_or_kept}
 use Rattle.documents.specs.Histories.{Change, creates, inserts, replaces, moves, removes, removes_document, grows, Makes, History, Removes, OneRemoves, CallsKeepParagraphs}
 
--- What was done, whether or not the counter wrapped.
 pub done_anyway : {X Gen : Type 0} (wraps : Gen → Bool) (counter : Option Gen) (invalid : Type 0) (done : X → Type 0) (r : InvalidationResult X) → IsSome (value_within r) → ReportsOverflow wraps counter invalid done r → (x : X) × done x
 done_anyway wraps counter invalid done InvalidPtr some is = absurd (cc)
 done_anyway wraps counter invalid done (Success x) some is = (x, is.1)
@@ -22,7 +21,6 @@ done_anyway wraps counter invalid done (GenerationOverflow x) some is = (x, is.1
 
 module _ {A Gen T : Type 0} {view : A → ArenaView Gen (Entry T)} {entry : A → ℕ → Option (Gen × Entry T)} (state : (a : A) → ArenaState (view a) (entry a)) (interlinks : A → LinkMap)
     {P I W : Type 0} (pointers : PointerKind P I Gen W) where
-  -- A change removes a paragraph, or it stays one.
   stays_or_goes : (old new : A) (change : Change Gen) (p : ℕ × Gen) → Makes state interlinks pointers old change new → IsItem (entry old) p → Removes state interlinks pointers old change p ⊎ IsItem (entry new) p
   stays_or_goes old new (creates d) p made item = inr (kept_by_insertion state interlinks old new p item entries.Head d made)
   stays_or_goes old new (inserts q) p made item = inr (kept_by_insertion state interlinks old new p item (entries.Item made.0) q made.1)

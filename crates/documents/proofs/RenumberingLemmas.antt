@@ -14,7 +14,6 @@ use Rattle.linked_lists.specs.declared.entry.Entry.TheVariants as entries
 use Rattle.linked_lists.specs.LinkedLists.{as_item, ring_of, IsList, IsInList, EachInList}
 use Rattle.documents.specs.Renumbering.{IsDocumentMoved, MovesDocuments}
 
--- The index of an item moves to that of its new pointer.
 moved_member : {Gen V : Type 0} (move : Moves Gen) (entry : ℕ → Option (Gen × V)) (p q : ℕ × Gen) → IsValid entry p → move p ≡ Some q → (xs ys : List (Item Gen V)) → AreItemsMoved move xs ys → AreEntries entry xs → IsMember (indexes xs) p.0 → IsMember (indexes ys) q.0
 moved_member move entry p q valid is [] ys moved stored has = absurd has
 moved_member {Gen} {V} move entry p q valid is (e ∷ xs) ys moved stored has =
@@ -28,7 +27,6 @@ moved_member {Gen} {V} move entry p q valid is (e ∷ xs) ys moved stored has =
 
 module _ {A Gen T : Type 0} {view : A → ArenaView Gen (Entry T)} {entry : A → ℕ → Option (Gen × Entry T)} (state : (a : A) → ArenaState (view a) (entry a)) (interlinks : A → LinkMap) (old new : A)
     (begins : Gen) (following : Gen → Gen) (move : Moves Gen) (is : IsRenumbered begins following view entry interlinks old new move) where
-  -- The ring of a document is moved to the ring of a document.
   ring_moved : (d : ℕ × Gen) (paragraphs : List (Item Gen T)) → IsList state interlinks old d paragraphs
       → (moved : IsDocumentMoved state interlinks old new move d paragraphs) × AreItemsMoved move (ring_of d paragraphs) (ring_of moved.handle moved.after)
   ring_moved d paragraphs was =
@@ -66,7 +64,6 @@ module _ {A Gen T : Type 0} {view : A → ArenaView Gen (Entry T)} {entry : A �
             among = moved_member move (entry old) from.0 (i, g) valid from.1 (ring_of there.handle there.items) (ring_of moved.0.handle moved.0.after) moved.1 there.list.are_stored there.among;
           }
 
--- Each entry is still in a list if a renumbering was refused.
 pub each_after : {A Gen T R E : Type 0} {view : A → ArenaView Gen (Entry T)} {entry : A → ℕ → Option (Gen × Entry T)} (state : (a : A) → ArenaState (view a) (entry a)) (interlinks : A → LinkMap) (old new : A)
     (begins : Gen) (following : Gen → Gen) (move : R → Moves Gen) (r : Result R E) → IfOk r (λ m. IsRenumbered begins following view entry interlinks old new (move m)) → OnErr r (new ≡ old) → EachInList state interlinks old → EachInList state interlinks new
 each_after state interlinks old new begins following move (Ok m) is same each = each_renumbered state interlinks old new begins following (move m) is each

@@ -24,7 +24,6 @@ seen key m s = record { table = table_of key m; arena = s }
 
 module _ {P Gen S : Type 0} (key : P → ℕ × Gen) (m n : HashMap (String Global) P S) (s t : Surjection Gen (String Global) Unit) (agree : Agree (table_of key m) s) (reordered : (k : String Global) → get string_eq n k ≡ get string_eq m k) where
   module _ (keys : t.keys.entries ≡ s.keys.entries) where
-    -- The map is reordered, and the arena has the same keys.
     pub reordered_agree : Agree (table_of key n) t
     reordered_agree = kept_agree (seen key m s) (seen key n t) (pointers_same key m n reordered) keys agree
 
@@ -52,11 +51,9 @@ module _ {P Gen S : Type 0} (key : P → ℕ × Gen) (m n : HashMap (String Glob
     pub insertion_interns : IsInterned (seen key m s) (seen key o t) word (key p)
     insertion_interns = subst (λ (x : List ℕ). IsInterned (seen key m s) (seen key o t) x (key p)) key_is (is_interned (seen key m s) (seen key o t) agree is k (key p) added not_there here rest)
 
--- The pointer of a word is that of a key.
 pub pointer_valid : {Gen : Type 0} (c : WordClasses Gen) (agree : Agree c.table c.arena) (x : List ℕ) (p : ℕ × Gen) → pointer_of c x ≡ Some p → IsKey c.arena p
 pointer_valid c agree x p at = let e = entry_of_word c.arena p.0 p.1 x ((agree x p).0 at) in record { value = (e.0, e.1); stored = e.2 }
 
--- A key is removed if its pointer is valid.
 key_taken : {Gen : Type 0} (following : Gen → Gen) (wraps : Gen → Bool) (s t : Surjection Gen (String Global) Unit) (p : ℕ × Gen) (result : InvalidationResult (String Global × Option Unit))
     → ReportsOverflow wraps s.keys.counter (IsKey s p → ⊥) (λ e. IsKeyTaken s t following p e.0 e.1) result → IsKey s p → (k : String Global) × (o : Option Unit) × IsKeyTaken s t following p k o
 key_taken following wraps s t p (Success e) outcome valid = (e.0, e.1, outcome.1)
@@ -79,7 +76,6 @@ module _ {P Gen S : Type 0} (key : P → ℕ × Gen) (following : Gen → Gen) (
   pub removal_drops : IsDropped (seen key m s) (seen key n t) word
   removal_drops = is_dropped following (seen key m s) (seen key n t) agree ascends word (key p) taken.0 taken.1 taken.2 at (pointer_there key m n word None updates) (pointer_elsewhere key m n word None updates)
 
--- A word that is not in the map is dropped already.
 pub absence_drops : {P Gen S : Type 0} (key : P → ℕ × Gen) (m n : HashMap (String Global) P S) (s : Surjection Gen (String Global) Unit) (word : List ℕ) → n.entries ≡ m.entries → get_by_text m word ≡ None → IsDropped (seen key m s) (seen key n s) word
 absence_drops {P} {Gen} key m n s word same absent =
     let unknown = pointer_read key m word ∙ ap (option_map key) absent in
@@ -108,11 +104,9 @@ module _ {P Gen : Type 0} (key : P → ℕ × Gen) (c : WordClasses Gen) (a : Li
   pub unknown_by : pointer_of c a ≡ None → IsKnown c a → ⊥
   unknown_by unknown known = let q = some_of (pointer_of c a) known in not_none q.0 (pointer_of c a) unknown q.1
 
-  -- Known words are equal if their pointers are in one set.
   pub equal_by : (b : List ℕ) (p q : ℕ × Gen) → pointer_of c a ≡ Some p → pointer_of c b ≡ Some q → AreEqual c a b → AreInOneSet c.arena p q
   equal_by b p q at_a at_b (r, s, at_r, at_s, one) =
       subst (λ (x : ℕ × Gen). AreInOneSet c.arena x q) (same_some r p (sym at_r ∙ at_a)) (subst (λ (x : ℕ × Gen). AreInOneSet c.arena r x) (same_some s q (sym at_s ∙ at_b)) one)
 
--- The key of a pointer is its word.
 pub word_read : {Gen : Type 0} (c : WordClasses Gen) (agree : Agree c.table c.arena) (p : ℕ × Gen) (k : String Global) → key_at c.arena p.0 ≡ Some (p.1, k) → pointer_of c (string_bytes k) ≡ Some p
 word_read {Gen} c agree p k at = (agree (string_bytes k) p).1 (ap (option_map (λ (e : Gen × String Global). (e.0, string_bytes e.1))) at)

@@ -26,14 +26,12 @@ abbrev pub set_in : {Gen : Type 0} → Option (Gen × (String Global × (ℕ × 
 set_in {Gen} o = option_map (λ (e : Gen × (String Global × (ℕ × Gen))). e.1.1) o
 
 module _ {Gen : Type 0} (s : Surjection Gen (String Global) Unit) where
-  -- What is known of an index with an entry.
   pub word_stored : (i : ℕ) (g : Gen) (k : String Global) (w : ℕ × Gen) → entry_in s.keys i ≡ Some (g, (k, w)) → word_at s i ≡ Some (g, string_bytes k)
   word_stored i g k w at = ap word_in at
 
   pub set_stored : (i : ℕ) (g : Gen) (k : String Global) (w : ℕ × Gen) → entry_in s.keys i ≡ Some (g, (k, w)) → set_at s i ≡ Some w
   set_stored i g k w at = ap set_in at
 
-  -- A word at an index is the key of an entry there.
   pub entry_of_word : (i : ℕ) (g : Gen) (word : List ℕ) → word_at s i ≡ Some (g, word) → (k : String Global) × (w : ℕ × Gen) × (entry_in s.keys i ≡ Some (g, (k, w)))
   entry_of_word i g word at = by (entry_in s.keys i) refl at
     where
@@ -47,7 +45,6 @@ module _ {Gen : Type 0} (c : WordClasses Gen) where
   abbrev pub IsIn : List ℕ → ℕ × Gen → Type 0
   IsIn x w = (p : ℕ × Gen) × (pointer_of c x ≡ Some p) × (set_at c.arena p.0 ≡ Some w)
 
-  -- Equal words are in one set.
   pub equal_in : (x y : List ℕ) → AreEqual c x y → (w : ℕ × Gen) × IsIn x w × IsIn y w
   equal_in x y (p, q, at_x, at_y, (w, (k, stored_p), (l, stored_q))) = (w, (p, at_x, set_stored c.arena p.0 p.1 k w stored_p), (q, at_y, set_stored c.arena q.0 q.1 l w stored_q))
 
@@ -63,11 +60,9 @@ module _ {Gen : Type 0} (c : WordClasses Gen) where
         let same = same_some e.1 w (sym (set_stored c.arena p.0 p.1 e.0 e.1 e.2) ∙ in_w) in
         (e.0, e.2 ∙ ap (λ u. Some (p.1, (e.0, u))) same)
 
-    -- Words in one set are equal.
     pub equal_from : (x y : List ℕ) (w : ℕ × Gen) → IsIn x w → IsIn y w → AreEqual c x y
     equal_from x y w (p, at_x, in_x) (q, at_y, in_y) = (p, q, at_x, at_y, (w, key_in x p w at_x in_x, key_in y q w at_y in_y))
 
-    -- A known word is in a set.
     pub known_in : (x : List ℕ) (p : ℕ × Gen) → pointer_of c x ≡ Some p → (w : ℕ × Gen) × IsIn x w
     known_in x p at =
         let e = entry_of_word c.arena p.0 p.1 x ((agree x p).0 at) in
@@ -85,7 +80,6 @@ module _ {Gen : Type 0} (c : WordClasses Gen) where
     pub equal_self : (x : List ℕ) (p : ℕ × Gen) → pointer_of c x ≡ Some p → AreEqual c x x
     equal_self x p at = let own = known_in x p at in equal_from x x own.0 own.1 own.1
 
-    -- If a and b are equal, both have one class.
     pub either_equal : (a b x : List ℕ) → AreEqual c a b → IsInEitherClass c a b x → AreEqual c a x
     either_equal a b x equal (inl (inl is)) = subst (λ y. AreEqual c a y) (sym is) (equal_trans a b a equal (equal_sym a b equal))
     either_equal a b x equal (inl (inr of_a)) = of_a

@@ -4,7 +4,6 @@ use Rattle.std.specs.Prelude.{◌↔◌}
 use Rattle.equate.specs.WordClasses.{WordClasses, pointer_of, AreEqual, IsKnown, IsInterned, AreUnited, AreKept, JoinsClasses, KeepsPointers, KeepsClasses, IsInClassOf, IsInEitherClass}
 
 module _ {Gen : Type 0} (old one two : WordClasses Gen) (a b : List ℕ) (p q : ℕ × Gen) (first : IsInterned old one a p) where
-  -- The second word may not be interned.
   pub kept_after_first : AreKept one two → KeepsClasses old two × KeepsPointers old two a a
   kept_after_first are = (
     λ x y known_x known_y. (λ equal. (first.kept x y known_x known_y).0 ((are.classes x y).0 equal), λ equal. (are.classes x y).1 ((first.kept x y known_x known_y).1 equal)),
@@ -23,7 +22,6 @@ module _ {Gen : Type 0} (old one two : WordClasses Gen) (a b : List ℕ) (p q : 
     between x same (inl was) = inl (ap is_some same ∙ was)
     between x same (inr others) = inr (others.1, others.1)
 
-    -- The first word keeps its pointer.
     pub first_here : pointer_of two a ≡ pointer_of one a
     first_here = second.pointers a (inl (ap is_some first.here))
 

@@ -18,7 +18,6 @@ module _ {Gen : Type 0} (old new : WordClasses Gen) (agree : Agree old.table old
   same_set : (i : ℕ) → i ≢ p.0 → set_at new.arena i ≡ set_at old.arena i
   same_set i other = ap set_in (added.key.entries.rest i other)
 
-  -- Indexes with entries are not the new one.
   apart : (i : ℕ) (e : Gen × List ℕ) → word_at old.arena i ≡ Some e → i ≢ p.0
   apart i e at same = not_none e (word_at old.arena i) (ap (word_at old.arena) same ∙ ap word_in added.key.entries.free) at
 

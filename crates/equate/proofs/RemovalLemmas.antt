@@ -16,7 +16,6 @@ module _ {Gen : Type 0} (following : Gen → Gen) (old new : WordClasses Gen) (a
   kept : (i : ℕ) → i ≢ p.0 → entry_in new.arena.keys i ≡ entry_in old.arena.keys i
   kept i other = ap (λ (s : ArenaView Gen (String Global × (ℕ × Gen))). found i s.entries) taken.keys ∙ found-kept i p.0 old.arena.keys.entries other
 
-  -- The pointer of another word has another index.
   apart : (x : List ℕ) (q : ℕ × Gen) → x ≢ word → pointer_of old x ≡ Some q → q.0 ≢ p.0
   apart x q other at same =
       let both = same_some (q.1, x) (p.1, word) (sym ((agree x q).0 at) ∙ (ap (word_at old.arena) same ∙ (agree word p).0 at_word)) in
@@ -70,7 +69,6 @@ module _ {Gen : Type 0} (following : Gen → Gen) (old new : WordClasses Gen) (a
     classes = λ x y. (to_old x y, λ are. to_new x y are.0 are.1 are.2);
   }
 
--- A word that is not known is dropped already.
 pub unknown_dropped : {Gen : Type 0} (c : WordClasses Gen) (word : List ℕ) → pointer_of c word ≡ None → IsDropped c c word
 unknown_dropped c word unknown = record {
   unknown = unknown;

@@ -7,14 +7,12 @@ use Rattle.std.proofs.lemmas.Map.Text.{is_text, hash_map_updates_text}
 use Rattle.std.proofs.lemmas.Slice.Eq.{bytes_eq-Decides}
 use Rattle.equate.specs.WordClasses.{table_of, pointer_in}
 
--- Two words are the same or not.
 pub cases_word : (x y : List ℕ) → (x ≡ y) ⊎ (x ≢ y)
 cases_word x y = ⊎_elim
     (λ yes. inl ((bytes_eq-Decides x y).0 yes))
     (λ no. inr (λ same. both_ways (bytes_eq x y) no ((bytes_eq-Decides x y).1 same)))
     (cases_Bool (bytes_eq x y))
 
--- What is found is at a key that passes.
 found_key : {K X : Type 0} (test : K → Bool) (es : List (K × X)) (v : X) → lookup test es ≡ Some v → (k : K) × (test k ≡ true)
 found_key test [] v is = absurd (cc)
 found_key {K} test (e ∷ es) v is = by (test e.0) refl is (found_key test es v)
@@ -24,7 +22,6 @@ found_key {K} test (e ∷ es) v is = by (test e.0) refl is (found_key test es v)
     by false fails is rest = rest is
 
 module _ {P Gen : Type 0} (key : P → ℕ × Gen) where
-  -- The pointer of an entry.
   abbrev listed : String Global × P → List ℕ × (ℕ × Gen)
   listed e = (string_bytes e.0, key e.1)
 
@@ -38,13 +35,11 @@ module _ {P Gen : Type 0} (key : P → ℕ × Gen) where
       by false rest = rest
 
 module _ {P Gen S : Type 0} (key : P → ℕ × Gen) where
-  -- The pointer of a word, by the map.
   pub pointer_read : (m : HashMap (String Global) P S) (word : List ℕ) → pointer_in (table_of key m) word ≡ option_map key (get_by_text m word)
   pointer_read m word = pointer_found key word m.entries
 
   module _ (m n : HashMap (String Global) P S) where
     module _ (bs : List ℕ) (w : Option P) (updates : UpdatesBy string_eq (λ k. bytes_eq bs (string_bytes k)) m n w) where
-      -- A change at a word.
       pub pointer_there : pointer_in (table_of key n) bs ≡ option_map key w
       pointer_there = pointer_read n bs ∙ ap (option_map key) (hash_map_updates_text bs m n w updates bs ∙ cond-true (bytes_eq bs bs) w (get_by_text m bs) ((bytes_eq-Decides bs bs).1 refl))
 
@@ -53,7 +48,6 @@ module _ {P Gen S : Type 0} (key : P → ℕ × Gen) where
           let apart = false_from_ne_true (bytes_eq bs x) (λ is. other (sym ((bytes_eq-Decides bs x).0 is))) in
           pointer_read n x ∙ (ap (option_map key) (hash_map_updates_text bs m n w updates x ∙ cond-false (bytes_eq bs x) w (get_by_text m x) apart) ∙ sym (pointer_read m x))
 
-    -- A word that one map has is found in both, if both find the same at each key.
     same_at_key : ((k : String Global) → get string_eq n k ≡ get string_eq m k) → (word : List ℕ) (k : String Global) → bytes_eq word (string_bytes k) ≡ true → get_by_text n word ≡ get_by_text m word
     same_at_key same word k is = subst (λ (bs : List ℕ). get_by_text n bs ≡ get_by_text m bs) (sym ((bytes_eq-Decides word (string_bytes k)).0 is)) (same k)
 

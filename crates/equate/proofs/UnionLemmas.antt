@@ -7,7 +7,6 @@ use Rattle.surject_arena.specs.SetCalls.{IsAbsorbed, AreUnited as SetsAreUnited}
 use Rattle.equate.specs.WordClasses.{WordClasses, pointer_of, Agree, AreEqual, AreUnited, JoinsClasses, IsInEitherClass}
 use Rattle.equate.proofs.ClassLemmas.{same_some, same_pair, set_stored, IsIn, equal_in, equal_from, in_one, key_in, known_in, either_equal, equal_sym, equal_trans}
 
--- Two sets with values are the same or not.
 cases_set : {Gen V K : Type 0} (s : Surjection Gen K V) (v w : ℕ × Gen) (t u : V) (n m : ℕ) → HasValue s v t n → HasValue s w u m → (v ≡ w) ⊎ (v ≢ w)
 cases_set {Gen} {V} {K} s v w t u n m at_v at_w = ⊎_elim
     (λ same. let both = same_some (v.1, (t, n)) (w.1, (u, m)) (sym at_v ∙ (ap (entry_in s.values) same ∙ at_w)) in inl (same_pair v w same (ap (λ (e : Gen × (V × ℕ)). e.0) both)))
@@ -15,7 +14,6 @@ cases_set {Gen} {V} {K} s v w t u n m at_v at_w = ⊎_elim
     (cases_eq v.0 w.0)
 
 module _ {Gen : Type 0} (following : Gen → Gen) (old new : WordClasses Gen) (pointers : (x : List ℕ) → pointer_of new x ≡ pointer_of old x) (agree : Agree old.table old.arena) where
-  -- Arenas with the same keys agree with the same table.
   pub same_keys_agree : ((i : ℕ) → key_at new.arena i ≡ key_at old.arena i) → Agree new.table new.arena
   same_keys_agree keys x q =
       let words = ap (option_map (λ (e : Gen × String Global). (e.0, string_bytes e.1))) (keys q.0) in
@@ -101,7 +99,6 @@ module _ {Gen : Type 0} (following : Gen → Gen) (old new : WordClasses Gen) (p
   joins_swapped : (a b : List ℕ) → JoinsClasses old new b a → JoinsClasses old new a b
   joins_swapped a b joined x y = (λ equal. swap_right b a x y ((joined x y).0 equal), λ either. (joined x y).1 (swap_right a b x y either))
 
-  -- Two sets were united.
   pub are_united : IsSurjection old.arena → (p q r : ℕ × Gen) → SetsAreUnited old.arena new.arena following p q tt r → (a b : List ℕ) → pointer_of old a ≡ Some p → pointer_of old b ≡ Some q → AreUnited old new a b true
   are_united is p q r united a b at_a at_b = ⊎_elim
       (λ (larger : _). both_ways (joins is united.v united.w larger.1 a b in_v in_w) (were_two is united.v united.w larger.1 a b in_v in_w))

@@ -44,7 +44,6 @@ module _ {A B Gen T P : Type 0} {view : A → ArenaView Gen T} {entry : A → �
   growing_forwarded greatest (Ok p) is = (entry_forwarded (key p) is.0, is.1)
   growing_forwarded greatest (Err e) is = is
 
--- The outcome of an insertion within the capacity, by consequences of what it does.
 pub within_to : {P : Type 0} (may has_capacity full : Type 0) (done done' : P → Type 0) (o : Result P ChainInsertionError) → IsInsertionWithinResult may has_capacity full done o → ((p : P) → done p → done' p) → IsInsertionWithinResult may has_capacity full done' o
 within_to may has_capacity full done done' (Ok p) is so = (is.0, is.1, so p is.2)
 within_to may has_capacity full done done' (Err e) is so = is

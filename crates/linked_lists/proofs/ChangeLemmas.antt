@@ -29,7 +29,6 @@ use Rattle.linked_lists.proofs.ListLemmas.{ring_parts, ring_has, ring_member, ri
 use Rattle.linked_lists.proofs.InsertionLemmas.{has_item}
 
 module _ {A Gen T : Type 0} {view : A → ArenaView Gen (Entry T)} {entry : A → ℕ → Option (Gen × Entry T)} (state : (a : A) → ArenaState (view a) (entry a)) (interlinks : A → LinkMap) where
-  -- Lists depend only on entries and links.
   pub each_viewed : (old new : A) → entry new ≡ entry old → interlinks new ≡ interlinks old → EachInList state interlinks old → EachInList state interlinks new
   each_viewed old new same linked each i some =
       let at = each i (ap (λ (f : ℕ → Option (Gen × Entry T)). is_some (f i)) (sym same) ∙ some) in
@@ -40,7 +39,6 @@ module _ {A Gen T : Type 0} {view : A → ArenaView Gen (Entry T)} {entry : A �
         among = at.among;
       }
 
-  -- A new ring of a head is an empty list.
   pub list_started : (old new : A) (h : ℕ × Gen) → IsItemStarted state interlinks cyclic old new (h, entries.Head) → IsListStarted state interlinks old new h
   list_started old new h is = record { list = is.list; head = is.item; others = λ k items none was. is.others (ring_of k items) tt was }
 
@@ -64,7 +62,6 @@ module _ {A Gen T : Type 0} {view : A → ArenaView Gen (Entry T)} {entry : A �
         by (Err why) done same = subst (EachInList state interlinks) (sym same) each
 
   module _ (old new : A) where
-    -- A value is written.
     new_value : (p : ℕ × Gen) (t : T) → rings.HasNewValue state interlinks cyclic old new p (entries.Item t) → ValueBecomes state interlinks old new p t
     new_value p t is = record {
       list = λ h s before after was. record {
@@ -151,14 +148,12 @@ module _ {A Gen T : Type 0} {view : A → ArenaView Gen (Entry T)} {entry : A �
     written t (subst (λ (u : Entry T). view new ≡ view_with_value (view old) p.0 u) is_item is) same,
   )
 
--- Whether the counter wrapped is reported.
 pub overflow_reported : {X Gen : Type 0} (wraps : Gen → Bool) (counter : Option Gen) (invalid : Type 0) (done : X → Type 0) (r : InvalidationResult X) → ReportsOverflow wraps counter invalid done r
     → OnSome (value_within r) (IfSome counter (λ g. wraps g ≡ is_overflow_result r))
 overflow_reported wraps counter invalid done outcome.InvalidPtr is = tt
 overflow_reported wraps counter invalid done (outcome.Success x) is = is.0
 overflow_reported wraps counter invalid done (outcome.GenerationOverflow x) is = is.0
 
--- A reference to a value is read.
 pub read_through : {T : Type 0} (X : T → Type 0) (o : Option (MutBor T)) (t : T) → option_copied_mut o ≡ Some t → X t → (is_some o ≡ true) × IfSome o (λ b. X b.now)
 read_through X None t is x = absurd (let none = is in cc)
 read_through X (Some b) t is x = (refl, subst X (sym (one_some is)) x)
@@ -167,6 +162,5 @@ pub on_any : {R X : Type 0} (o : Option R) → X → OnSome o X
 on_any None x = tt
 on_any (Some r) x = x
 
--- An entry of an item holds its value.
 pub same_value : {Gen T : Type 0} (entry : ℕ → Option (Gen × Entry T)) (p : ℕ × Gen) (v : Entry T) (t : T) → entry p.0 ≡ Some (p.1, v) → HasItem entry p t → v ≡ entries.Item t
 same_value {Gen} {T} entry p v t at item = ap (λ (e : Gen × Entry T). e.1) (one_some (sym at ∙ item))

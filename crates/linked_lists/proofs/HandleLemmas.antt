@@ -16,7 +16,6 @@ use Rattle.linked_lists.specs.RingCalls.{FindsHead, EndsList, EndsListOf}
 use Rattle.linked_lists.proofs.ListLemmas.{head_valid, item_valid, item_of, only_head}
 use Rattle.linked_lists.proofs.InsertionLemmas.{has_item}
 
--- Nothing of a walk is ahead if no entry is at the first index ahead.
 pub not_ahead : {X : Type 0} (links : LinkMap) (entry : ℕ → Option X) → ((k : ℕ) → HasLink links k → is_some (entry k) ≡ true) → (i j : ℕ) (walk ahead : List ℕ) → IsWalk links i walk → ((k : ℕ) → IsMember ahead k → IsMember walk k)
     → ((k : ℕ) (rest : List ℕ) → ahead ≡ k ∷ rest → entry k ≡ None) → IsMember ahead j → ⊥
 not_ahead links entry occupied i j walk [] is in_walk first has = absurd has
@@ -24,14 +23,12 @@ not_ahead links entry occupied i j walk (k ∷ rest) is in_walk first has =
     let some = occupied k (walk_valid links i walk is k (in_walk k (inl refl))) in let none = ap is_some (first k rest refl) in let both = sym some ∙ none in cc
 
 module _ {Gen T : Type 0} (links : LinkMap) (entry : ℕ → Option (Gen × Entry T)) (walk : List ℕ) (old new : Walker) (q : ℕ × Gen) (valid : IsValid entry q) (step : step_of links old ≡ Some (q.0, new)) where
-  -- The links ahead after a step were ahead before it, with the link passed.
   pub was_ahead : ((i : ℕ) → IsMember (passes_ahead links old) i → IsMember walk i) → (i : ℕ) → IsMember (passes_ahead links new) i → IsMember walk i
   was_ahead in_walk i has = in_walk i (subst (λ (l : List ℕ). IsMember l i) (sym (step_ahead links old new q.0 step)) (inr has))
 
   pub passed_in_walk : ((i : ℕ) → IsMember (passes_ahead links old) i → IsMember walk i) → IsMember walk q.0
   passed_in_walk in_walk = in_walk q.0 (subst (λ (l : List ℕ). IsMember l q.0) (sym (step_ahead links old new q.0 step)) (inl refl))
 
-  -- A head of the walk is still ahead if the link passed is no head.
   pub still_ahead : (IsHandle entry q → ⊥) → ((k : ℕ × Gen) → IsHandle entry k → IsMember walk k.0 → IsMember (passes_ahead links old) k.0) → (k : ℕ × Gen) → IsHandle entry k → IsMember walk k.0 → IsMember (passes_ahead links new) k.0
   still_ahead not_head ahead k head has = ⊎_elim
       (λ same. absurd (not_head (subst (IsHandle entry) (sym (same_pointer entry q k valid (head_valid entry k head) same)) head)))
@@ -59,7 +56,6 @@ module _ {A Gen T : Type 0} {view : A → ArenaView Gen (Entry T)} {entry : A �
   pub no_handle : (IsItem (entry a) (key p) → ⊥) → ReadsHandle state interlinks key a p None
   no_handle not_item = record { none = λ none. refl; handle = λ h t before after is. absurd (not_item (record { value = t; stored = item_of state interlinks a h (key p) t before after is })) }
 
-  -- The handle is found.
   pub handle_found : (t : T) → HasPlace state interlinks a (key p) t → (h : P) → ReadsHandle state interlinks key a p (Some h) → IsHandle (entry a) (key h)
   handle_found t at h reads = subst (IsHandle (entry a)) (sym (one_some (reads.handle at.handle t at.before at.after at.list))) at.list.are_stored.0
 

@@ -18,7 +18,6 @@ use Rattle.linked_lists.specs.LinkedLists.{as_item, ring_of, IsHandle, IsItem, I
 use Rattle.linked_lists.proofs.RingLemmas.{ring_rotated}
 use Rattle.linked_lists.proofs.ListLemmas.{ring_parts, ring_has, ring_more, keeps_others, each_kept, list_of, place_of, item_valid, head_valid}
 
--- An insertion that requires less, where that holds, and its consequences.
 pub inserted_to : {P : Type 0} (weak strong : Type 0) (refuses : ReallocationError → Type 0) (done more : P → Type 0) (o : Result P ChainInsertionError) → strong → weak → IsInsertionResult weak refuses done o
     → ((p : P) → done p → more p) → IsInsertionResult strong refuses more o
 inserted_to weak strong refuses done more (Ok p) may valid is so = (may, so p is.1)
@@ -29,7 +28,6 @@ inserted_to weak strong refuses done more (Err failed.NotWithinCapacity) may val
 
 module _ {A Gen T : Type 0} {view : A → ArenaView Gen (Entry T)} {entry : A → ℕ → Option (Gen × Entry T)} (state : (a : A) → ArenaState (view a) (entry a)) (interlinks : A → LinkMap) where
   module _ (old new : A) (p : ℕ × Gen) (e : Item Gen T) where
-    -- The index of `p` is in a list that has `p` as an item.
     pub has_item : (h : ℕ × Gen) (t : T) (before after : List (Item Gen T)) → IsMember (indexes (ring_of h (before ++ (p, t) ∷ after))) p.0
     has_item h t before after = ring_has h (before ++ (p, t) ∷ after) p.0 (inr (among-right before ((p, t) ∷ after) p.0 (inl refl)))
 
@@ -71,7 +69,6 @@ module _ {A Gen T : Type 0} {view : A → ArenaView Gen (Entry T)} {entry : A �
       pub added_ahead : IsItemAdded state interlinks old new (GrowsBefore state interlinks old new p) e
       added_ahead = record { list = ahead; item = is.item }
 
-    -- After an insertion into a list, each entry is in a list.
     each_grown : EachInList state interlinks old → IsInserted (entry old) (entry new) e.0 (entries.Item e.1) → (h : ℕ × Gen) (before rest more : List (Item Gen T)) → IsList state interlinks old h (before ++ rest)
         → Becomes state interlinks old new h (before ++ more) → IsMember (indexes more) e.0.0 → ((i : ℕ) → IsMember (indexes rest) i → IsMember (indexes more) i) → EachInList state interlinks new
     each_grown each gained h before rest more was is has sub = each_kept state interlinks old new each h (before ++ rest) (before ++ more) was is
@@ -102,7 +99,6 @@ module _ {A Gen T : Type 0} {view : A → ArenaView Gen (Entry T)} {entry : A �
         each_grown each added.item.entries at.handle at.before ((p, item.value) ∷ at.after) (e ∷ (p, item.value) ∷ at.after) at.list (added.list at.handle item.value at.before at.after at.list) (inl refl) (λ i has. inr has)
 
   module _ {P : Type 0} (key : P → ℕ × Gen) (greatest : ℕ) (old new : A) (p : ℕ × Gen) (t : T) (o : Result P ChainInsertionError) where
-    -- An insertion of an item after a link, or before it, by the case of that link.
     pub pushes_front : IsHandle (entry old) p → InsertsItemAfter state interlinks cyclic key greatest old p (entries.Item t) o new
         → AddsItem state interlinks key greatest (IsHandle (entry old) p) (λ a b. GrowsAtStart state interlinks a b p) old t o new
     pushes_front head is = record { outcome = inserted_to _ _ (RefusesOneMore (view old)) _ _ o head (head_valid (entry old) p head) is.outcome (λ q done. (added_at_start old new p (key q, t) done.0, done.1)); err = is.err }
@@ -119,7 +115,6 @@ module _ {A Gen T : Type 0} {view : A → ArenaView Gen (Entry T)} {entry : A �
         → AddsItem state interlinks key greatest (IsItem (entry old) p) (λ a b. GrowsBefore state interlinks a b p) old t o new
     inserts_before item is = record { outcome = inserted_to _ _ (RefusesOneMore (view old)) _ _ o item (item_valid (entry old) p item.value item.stored) is.outcome (λ q done. (added_ahead old new p (key q, t) done.0, done.1)); err = is.err }
 
-    -- After an insertion, or a refusal, each entry is in a list.
     pub each_added : (may : Type 0) (grows : A → A → Item Gen T → Type 0) → EachInList state interlinks old → AddsItem state interlinks key greatest may grows old t o new
         → ((q : P) → may → IsItemAdded state interlinks old new (grows old new) (key q, t) → EachInList state interlinks new) → EachInList state interlinks new
     each_added may grows each is so = by o is.outcome is.err

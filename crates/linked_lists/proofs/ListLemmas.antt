@@ -16,16 +16,13 @@ use Rattle.linked_lists.specs.declared.entry.Entry.TheVariants as entries
 use Rattle.linked_lists.specs.LinkedLists.{as_item, ring_of, IsHandle, HasItem, IsList, IsInList, EachInList, HasPlace, AllInLists, KeepsOthers, Becomes}
 
 module _ {Gen T : Type 0} where
-  -- Items have the indexes of their entries.
   pub indexes-items : (xs : List (Item Gen T)) → indexes (map as_item xs) ≡ indexes xs
   indexes-items [] = refl
   indexes-items (x ∷ xs) = ap (λ (l : List ℕ). x.0.0 ∷ l) (indexes-items xs)
 
-  -- The ring of a list is that of its first part, and then the rest.
   pub ring_parts : (h : ℕ × Gen) (xs ys : List (Item Gen T)) → ring_of h (xs ++ ys) ≡ ring_of h xs ++ map as_item ys
   ring_parts h xs ys = ap (λ (l : List (Item Gen (Entry T))). (h, entries.Head) ∷ l) (map-append as_item xs ys)
 
-  -- An index of a list's ring is that of the handle or of an item.
   pub ring_has : (h : ℕ × Gen) (xs : List (Item Gen T)) (i : ℕ) → (h.0 ≡ i) ⊎ IsMember (indexes xs) i → IsMember (indexes (ring_of h xs)) i
   ring_has h xs i (inl is) = inl is
   ring_has h xs i (inr has) = inr (subst (λ (l : List ℕ). IsMember l i) (sym (indexes-items xs)) has)
@@ -34,7 +31,6 @@ module _ {Gen T : Type 0} where
   ring_member h xs i (inl is) = inl is
   ring_member h xs i (inr has) = inr (subst (λ (l : List ℕ). IsMember l i) (indexes-items xs) has)
 
-  -- A list whose rest has more indexes has more indexes.
   pub ring_more : (h : ℕ × Gen) (before rest more : List (Item Gen T)) → ((i : ℕ) → IsMember (indexes rest) i → IsMember (indexes more) i)
       → (i : ℕ) → IsMember (indexes (ring_of h (before ++ rest))) i → IsMember (indexes (ring_of h (before ++ more))) i
   ring_more h before rest more sub i has = ring_has h (before ++ more) i (⊎_elim
@@ -42,7 +38,6 @@ module _ {Gen T : Type 0} where
       (λ among. inr (⊎_elim (λ left. among-left before more i left) (λ right. among-right before more i (sub i right)) (among-parts before rest i among)))
       (ring_member h (before ++ rest) i has))
 
-  -- Items with the same entries are the same.
   pub same_values : (xs ys : List (Item Gen T)) → map as_item xs ≡ map as_item ys → xs ≡ ys
   same_values [] [] same = refl
   same_values [] (y ∷ ys) same = absurd (cc)
@@ -55,7 +50,6 @@ module _ {Gen T : Type 0} where
       ap (λ (k : ℕ × Gen). (k, x.1) ∷ xs) first ∙ (ap (λ (t : T). (y.0, t) ∷ xs) value ∙ ap (λ (l : List (Item Gen T)). y ∷ l) (same_values xs ys rest))
 
   module _ (entry : ℕ → Option (Gen × Entry T)) where
-    -- A handle is no item.
     pub head_or_item : (h p : ℕ × Gen) (t : T) → IsHandle entry h → HasItem entry p t → h.0 ≡ p.0 → ⊥
     head_or_item h p t head item same = absurd (let both = ap (λ (e : Gen × Entry T). e.1) (one_some (sym head ∙ (ap entry same ∙ item))) in cc)
 
@@ -65,13 +59,11 @@ module _ {Gen T : Type 0} where
     pub head_valid : (h : ℕ × Gen) → IsHandle entry h → IsValid entry h
     head_valid h has = record { value = entries.Head; stored = has }
 
-    -- The entry at an index of items is an item.
     pub item_there : (xs : List (Item Gen T)) (i : ℕ) → AreEntries entry (map as_item xs) → IsMember (indexes (map as_item xs)) i → (g : Gen) × (t : T) × HasItem entry (i, g) t
     item_there [] i s has = absurd has
     item_there (x ∷ xs) i s (inl is) = (x.0.1, x.1, ap entry (sym is) ∙ s.0)
     item_there (x ∷ xs) i s (inr has) = item_there xs i s.1 has
 
-    -- An item among items is between others.
     pub item_between : (xs : List (Item Gen T)) (p : ℕ × Gen) (t : T) → AreEntries entry (map as_item xs) → HasItem entry p t → IsMember (indexes (map as_item xs)) p.0
         → (before : List (Item Gen T)) × (after : List (Item Gen T)) × (xs ≡ before ++ (p, t) ∷ after)
     item_between [] p t s item has = absurd has
@@ -86,19 +78,16 @@ module _ {Gen T : Type 0} where
 
 module _ {A Gen T : Type 0} {view : A → ArenaView Gen (Entry T)} {entry : A → ℕ → Option (Gen × Entry T)} (state : (a : A) → ArenaState (view a) (entry a)) (interlinks : A → LinkMap) where
   module _ (a : A) where
-    -- A handle in a list is the list's handle.
     pub only_head : (h k : ℕ × Gen) (ys : List (Item Gen T)) → IsHandle (entry a) h → IsList state interlinks a k ys → IsMember (indexes (ring_of k ys)) h.0 → h ≡ k
     only_head h k ys head is (inl same) = same_pointer (entry a) h k (head_valid (entry a) h head) (head_valid (entry a) k is.are_stored.0) (sym same)
     only_head h k ys head is (inr has) =
         let there = item_there (entry a) ys h.0 is.are_stored.1 has in
         absurd (head_or_item (entry a) h (h.0, there.0) there.1 head there.2 refl)
 
-    -- A handle has one list.
     pub same_list : (h : ℕ × Gen) (xs ys : List (Item Gen T)) → IsList state interlinks a h xs → IsList state interlinks a h ys → xs ≡ ys
     same_list h xs ys one two = same_values xs ys (same_items (entry a) (map as_item xs) (map as_item ys) one.are_stored.1 two.are_stored.1
         (one_cyclic (interlinks a) h.0 (indexes (map as_item xs)) (indexes (map as_item ys)) one.chain two.chain))
 
-    -- Lists that share an index have the same handle.
     pub same_handle : (h k : ℕ × Gen) (xs ys : List (Item Gen T)) (i : ℕ) → IsList state interlinks a h xs → IsList state interlinks a k ys
         → IsMember (indexes (ring_of h xs)) i → IsMember (indexes (ring_of k ys)) i → h ≡ k
     same_handle h k xs ys i one two in_one in_two = only_head h k ys one.are_stored.0 two
@@ -110,17 +99,14 @@ module _ {A Gen T : Type 0} {view : A → ArenaView Gen (Entry T)} {entry : A �
         let same = same_handle h k xs ys i one two in_one in_two in
         (same, same_list k xs ys (subst (λ (q : ℕ × Gen). IsList state interlinks a q xs) same one) two)
 
-    -- The item of `p` is between others in its list.
     pub placed : (h p : ℕ × Gen) (xs : List (Item Gen T)) (t : T) → IsList state interlinks a h xs → HasItem (entry a) p t → IsMember (indexes (ring_of h xs)) p.0
         → (before : List (Item Gen T)) × (after : List (Item Gen T)) × (xs ≡ before ++ (p, t) ∷ after)
     placed h p xs t is item (inl same) = absurd (head_or_item (entry a) h p t is.are_stored.0 item same)
     placed h p xs t is item (inr has) = item_between (entry a) xs p t is.are_stored.1 item has
 
-    -- An item of a list is an item of the arena.
     pub item_of : (h p : ℕ × Gen) (t : T) (before after : List (Item Gen T)) → IsList state interlinks a h (before ++ (p, t) ∷ after) → HasItem (entry a) p t
     item_of h p t before after is = (are_stored-right (entry a) (ring_of h before) (as_item (p, t) ∷ map as_item after) (subst (AreEntries (entry a)) (ring_parts h before ((p, t) ∷ after)) is.are_stored)).0
 
-    -- If each entry is in a list, each handle has a list, and each item is in one.
     pub list_of : EachInList state interlinks a → (h : ℕ × Gen) → IsHandle (entry a) h → (items : List (Item Gen T)) × IsList state interlinks a h items
     list_of each h head =
         let at = each h.0 (ap is_some head) in
@@ -135,7 +121,6 @@ module _ {A Gen T : Type 0} {view : A → ArenaView Gen (Entry T)} {entry : A �
     pub all_in_lists : EachInList state interlinks a → AllInLists state interlinks a
     all_in_lists each = record { lists = list_of each; items = place_of each; once = one_list }
 
-    -- If all are in lists, each entry is in a list.
     pub each_of_all : AllInLists state interlinks a → EachInList state interlinks a
     each_of_all all i some = by (entry a i) refl some
       where
@@ -146,19 +131,16 @@ module _ {A Gen T : Type 0} {view : A → ArenaView Gen (Entry T)} {entry : A �
             let at = all.items (i, g) t is in
             record { handle = at.handle; items = at.before ++ ((i, g), t) ∷ at.after; list = at.list; among = ring_has at.handle (at.before ++ ((i, g), t) ∷ at.after) i (inr (among-right at.before (((i, g), t) ∷ at.after) i (inl refl))) }
 
-    -- The links of a list are those of the list of its handle.
     pub links_of_handle : (k h : ℕ × Gen) (ys xs : List (Item Gen T)) (i : ℕ) → IsList state interlinks a k ys → IsList state interlinks a h xs → k ≡ h → IsMember (indexes (ring_of k ys)) i → IsMember (indexes (ring_of h xs)) i
     links_of_handle k h ys xs i one two same among =
         let here = subst (λ (q : ℕ × Gen). IsList state interlinks a q ys) same one in
         subst (λ (l : List (Item Gen T)). IsMember (indexes (ring_of h l)) i) (same_list h ys xs here two) (subst (λ (q : ℕ × Gen). IsMember (indexes (ring_of q ys)) i) same among)
 
   module _ (old new : A) where
-    -- A change of rings with `p` changes only the list of `p`.
     pub keeps_others : (h p : ℕ × Gen) (xs : List (Item Gen T)) → KeepsWithout state interlinks cyclic old new (p ∷ []) → IsList state interlinks old h xs → IsMember (indexes (ring_of h xs)) p.0
         → KeepsOthers state interlinks old new (h ∷ [])
     keeps_others h p xs kept is has k ys none other = kept (ring_of k ys) ((λ among. none.0 (same_handle old k h ys xs p.0 other is among has)), tt) other
 
-    -- After a change of one list, each entry is in a list.
     pub each_kept : EachInList state interlinks old → (h : ℕ × Gen) (xs ys : List (Item Gen T)) → IsList state interlinks old h xs → Becomes state interlinks old new h ys
         → ((i : ℕ) → is_some (entry new i) ≡ true → (IsMember (indexes (ring_of h ys)) i → ⊥) → (is_some (entry old i) ≡ true) × (IsMember (indexes (ring_of h xs)) i → ⊥))
         → EachInList state interlinks new
@@ -175,7 +157,6 @@ module _ {A Gen T : Type 0} {view : A → ArenaView Gen (Entry T)} {entry : A �
         })
         (IsMember-or_not (indexes (ring_of h ys)) i)
 
-    -- The same after a change of two lists.
     pub each_kept_two : EachInList state interlinks old → (h k : ℕ × Gen) (xs ys us vs : List (Item Gen T)) → IsList state interlinks old h xs → IsList state interlinks old k ys
         → IsList state interlinks new h us → IsList state interlinks new k vs → KeepsOthers state interlinks old new (h ∷ k ∷ [])
         → ((i : ℕ) → is_some (entry new i) ≡ true → (IsMember (indexes (ring_of h us)) i → ⊥) → (IsMember (indexes (ring_of k vs)) i → ⊥)

@@ -20,12 +20,10 @@ use Rattle.linked_lists.specs.LinkedLists.{ring_of, view_after_removals, counter
 use Rattle.linked_lists.specs.RingCalls.{EmptiesList}
 use Rattle.linked_lists.proofs.ListLemmas.{same_handle, links_of_handle, head_valid}
 
--- One more removal comes last.
 removed_last : {Gen V : Type 0} (following : Gen → Gen) (s : ArenaView Gen V) (is : List ℕ) (i : ℕ) → view_after_removals following s (is ++ i ∷ []) ≡ view_after_removal following (view_after_removals following s is) i
 removed_last following s [] i = refl
 removed_last following s (j ∷ is) i = removed_last following (view_after_removal following s j) is i
 
--- The counter after removals, and whether it wrapped.
 counter_left : {Gen V : Type 0} (following : Gen → Gen) (s : ArenaView Gen V) (is : List ℕ) (n : ℕ) → length is ≡ n → (view_after_removals following s is).counter ≡ option_map (counter_after following n) s.counter
 counter_left {Gen} {V} following s is n same = by is s ∙ ap (λ (k : ℕ). option_map (counter_after following k) s.counter) same
   where
@@ -54,14 +52,12 @@ one_more_wraps : {Gen : Type 0} (wraps : Gen → Bool) (following : Gen → Gen)
 one_more_wraps wraps following None n wrapped overflow before now = tt
 one_more_wraps wraps following (Some g) n wrapped overflow before now = ap (λ b. b || wraps (counter_after following n g)) before ∙ ap (λ b. wrapped || b) now
 
--- A result reports the overflow that it has.
 reports : {X Gen : Type 0} (wraps : Gen → Bool) (counter : Option Gen) (invalid : Type 0) (done : X → Type 0) (overflow : Bool) (x : X) → IfSome counter (λ g. wraps g ≡ overflow) → done x
     → ReportsOverflow wraps counter invalid done (invalidation_result overflow (Some x))
 reports wraps counter invalid done false x is holds = (is, holds)
 reports wraps counter invalid done true x is holds = (is, holds)
 
 module _ {A Gen T : Type 0} {view : A → ArenaView Gen (Entry T)} {entry : A → ℕ → Option (Gen × Entry T)} (state : (a : A) → ArenaState (view a) (entry a)) (interlinks : A → LinkMap) where
-  -- One more entry is removed.
   then_removed : (following : Gen → Gen) (old mid new : A) (is : List ℕ) (i : ℕ) → AreEntriesRemoved state interlinks old mid following is → view new ≡ view_after_removal following (view mid) i
       → entry new i ≡ None → ((k : ℕ) → k ≢ i → entry new k ≡ entry mid k) → AreEntriesRemoved state interlinks old new following (is ++ i ∷ [])
   then_removed following old mid new is i part view_after gone kept = record {
@@ -99,7 +95,6 @@ module _ {A Gen T : Type 0} {view : A → ArenaView Gen (Entry T)} {entry : A �
       }
 
   module _ {P I W : Type 0} (pointers : PointerKind P I Gen W) (old now new : A) (h p : P) (wrapped : Bool) (part : IsPartlyEmptied pointers.wraps pointers.following old now (pointers.key h) wrapped) (reads : ReadsFirst state interlinks pointers.key now h (Some p)) where
-    -- The first item that is left.
     first_left : (es : List (Item Gen T)) → IsList state interlinks now (pointers.key h) es → (e : Item Gen T) × (rest : List (Item Gen T)) × (es ≡ e ∷ rest) × (pointers.key p ≡ e.0) × HasItem (entry now) e.0 e.1
     first_left [] is = absurd (let some = reads.first [] is in cc)
     first_left (e ∷ es) is = (e, es, refl, one_some (reads.first (e ∷ es) is), is.are_stored.1.0)
@@ -136,7 +131,6 @@ module _ {A Gen T : Type 0} {view : A → ArenaView Gen (Entry T)} {entry : A �
         by : (e : Item Gen T) × (rest : List (Item Gen T)) × (part.rest ≡ e ∷ rest) × (pointers.key p ≡ e.0) × HasItem (entry now) e.0 e.1 → IsItem (entry now) (pointers.key p)
         by (e, rest, rest_is, same, stored) = record { value = e.1; stored = subst (λ (k : ℕ × Gen). HasItem (entry now) k e.1) (sym same) stored }
 
-    -- Removing the first item goes on, with fewer entries.
     pub removal_goes_on : (r : InvalidationResult T) → RemovesListItem state interlinks pointers now p r new → IsPartlyEmptied pointers.wraps pointers.following old new (pointers.key h) (wrapped || is_overflow_result r)
     removal_goes_on outcome.InvalidPtr removes = absurd (removes.0 first_is_item)
     removal_goes_on (outcome.Success t) removes = goes_on t false removes.0 removes.1
@@ -147,7 +141,6 @@ module _ {A Gen T : Type 0} {view : A → ArenaView Gen (Entry T)} {entry : A �
     fewer_left (outcome.Success t) removes = omega (arith, removes.1.size)
     fewer_left (outcome.GenerationOverflow t) removes = omega (arith, removes.1.size)
 
-  -- Without a first item, the list is empty.
   pub all_removed : {P : Type 0} (key : P → ℕ × Gen) (wraps : Gen → Bool) (following : Gen → Gen) (old now : A) (h : P) (n : ℕ) (wrapped : Bool) → IsPartlyEmptied wraps following old now (key h) wrapped → ReadsFirst state interlinks key now h None
       → n + count (view now) ≡ count (view old) → EmptiesList state interlinks wraps following old (key h) (n, wrapped) now
   all_removed key wraps following old now h n wrapped part reads total = by part.rest part.was part.list
@@ -171,7 +164,6 @@ module _ {A Gen T : Type 0} {view : A → ArenaView Gen (Entry T)} {entry : A �
       others = λ k items none is. head_goes v gone k items none.0 (emptied.others k items none is);
     }
 
-    -- The counter wraps with an item, or with the head.
     wraps_once : (overflow : Bool) → IfSome (view now).counter (λ g. pointers.wraps g ≡ overflow) → IfSome (view old).counter (λ g. wraps_within pointers.wraps pointers.following (suc (length emptied.items)) g ≡ (n.1 || overflow))
     wraps_once overflow reported = one_more_wraps pointers.wraps pointers.following (view old).counter (length emptied.items) n.1 overflow emptied.overflow
         (subst (λ (o : Option Gen). IfSome o (λ g. pointers.wraps g ≡ overflow)) (ap (λ (s : ArenaView Gen (Entry T)). s.counter) emptied.removed.view_after ∙ counter_left pointers.following (view old) (indexes emptied.items) (length emptied.items) (length-map emptied.items index_of)) reported)

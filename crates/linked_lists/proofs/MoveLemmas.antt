@@ -21,7 +21,6 @@ use Rattle.linked_lists.proofs.RingLemmas.{ring_rotated}
 use Rattle.linked_lists.proofs.ListLemmas.{indexes-items, ring_parts, ring_has, ring_member, ring_more, same_handle, same_list, list_of, place_of, item_of, head_or_item, item_valid, head_valid, each_kept, each_kept_two}
 use Rattle.linked_lists.proofs.InsertionLemmas.{has_item}
 
--- An item of a list that has two parts is in one of them.
 pub in_one_part : {X : Type 0} (xs ys x y : List X) (e : X) → xs ++ ys ≡ x ++ e ∷ y → ((m : List X) × (xs ≡ x ++ e ∷ m) × (y ≡ m ++ ys)) ⊎ ((m : List X) × (x ≡ xs ++ m) × (ys ≡ m ++ e ∷ y))
 in_one_part [] ys x y e same = inr (x, refl, same)
 in_one_part (a ∷ xs) ys [] y e same =
@@ -38,7 +37,6 @@ in_one_part {X} (a ∷ xs) ys (b ∷ x) y e same =
 
 module _ {A Gen V : Type 0} {view : A → ArenaView Gen V} {entry : A → ℕ → Option (Gen × V)} (state : (a : A) → ArenaState (view a) (entry a)) (interlinks : A → LinkMap)
     (old new : A) (p q : ℕ × Gen) (moves : MovesAfter (interlinks old) (interlinks new) p.0 q.0) (same : entry new ≡ entry old) where
-  -- Within one ring that is listed from `p` on.
   moved_around : (v s : V) (x y : List (Item Gen V)) → IsRing state interlinks old ((p, v) ∷ x ++ (q, s) ∷ y) → IsRing state interlinks new (x ++ (q, s) ∷ (p, v) ∷ y)
   moved_around v s x y is =
       let right = are_stored-right (entry old) x ((q, s) ∷ y) is.are_stored.1 in
@@ -46,7 +44,6 @@ module _ {A Gen V : Type 0} {view : A → ArenaView Gen V} {entry : A → ℕ �
       (are_stored-append (entry old) x ((q, s) ∷ (p, v) ∷ y) (are_stored-left (entry old) x ((q, s) ∷ y) is.are_stored.1) (right.0, (is.are_stored.0, right.1)))
       (whole state interlinks cyclic new x ((q, s) ∷ (p, v) ∷ y) (moves.around (indexes x) (indexes y) (parts state interlinks cyclic old ((p, v) ∷ x) ((q, s) ∷ y) is.chain)))
 
-  -- Within one ring: `p` leaves it, and comes after `q`.
   pub moved_within : (v s : V) (xs ys x y : List (Item Gen V)) → IsRing state interlinks old (xs ++ (p, v) ∷ ys) → xs ++ ys ≡ x ++ (q, s) ∷ y → IsRing state interlinks new (x ++ (q, s) ∷ (p, v) ∷ y)
   moved_within v s xs ys x y is split = ⊎_elim behind ahead (in_one_part xs ys x y (q, s) split)
     where
@@ -66,7 +63,6 @@ module _ {A Gen V : Type 0} {view : A → ArenaView Gen V} {entry : A → ℕ �
           let back = ring_rotated state interlinks new (m ++ (q, s) ∷ (p, v) ∷ y) xs moved in
           subst (λ (l : List (Item Gen V)). IsRing state interlinks new (l ++ (q, s) ∷ (p, v) ∷ y)) (sym left) (subst (IsRing state interlinks new) (sym (append_assoc xs m ((q, s) ∷ (p, v) ∷ y))) back)
 
-  -- From one ring to another.
   pub moved_from : (v : V) (xs ys : List (Item Gen V)) → IsRing state interlinks old (xs ++ (p, v) ∷ ys) → (IsMember (indexes (xs ++ ys)) q.0 → ⊥) → (indexes xs ++ indexes ys ≢ []) → IsRing state interlinks new (xs ++ ys)
   moved_from v xs ys is apart filled = stays state interlinks cyclic old new same (xs ++ ys)
       (are_stored-append (entry old) xs ys (are_stored-left (entry old) xs ((p, v) ∷ ys) is.are_stored) (are_stored-right (entry old) xs ((p, v) ∷ ys) is.are_stored).1)
@@ -81,7 +77,6 @@ module _ {A Gen V : Type 0} {view : A → ArenaView Gen V} {entry : A → ℕ �
       (whole state interlinks cyclic new x ((q, s) ∷ (p, v) ∷ y) (moves.to_cyclic (indexes x) (indexes y) (parts state interlinks cyclic old x ((q, s) ∷ y) is.chain)
       (λ has. apart (subst (λ (l : List ℕ). IsMember l p.0) (sym (map-append index_of x ((q, s) ∷ y))) has))))
 
-  -- Every other ring stays.
   pub moved_rest : (xs : List (Item Gen V)) → (IsMember (indexes xs) p.0 → ⊥) → (IsMember (indexes xs) q.0 → ⊥) → IsRing state interlinks old xs → IsRing state interlinks new xs
   moved_rest xs no_p no_q is = stays state interlinks cyclic old new same xs is.are_stored (moves.rest (cyclic (indexes xs)) no_p no_q is.chain)
 
@@ -94,7 +89,6 @@ pub record ComesAfter {Gen T : Type 0} (q k : ℕ × Gen) (e : Item Gen T) (othe
   pub is : ring_of k items ≡ before ++ (q, value) ∷ as_item e ∷ after
 
 module _ {Gen T : Type 0} (q k : ℕ × Gen) (e : Item Gen T) (others items : List (Item Gen T)) (at : ComesAfter q k e others items) where
-  -- The links of the list are `q`, the others and `e`.
   has_place : IsMember (indexes (ring_of k others)) q.0
   has_place = subst (λ (l : List (Item Gen (Entry T))). IsMember (indexes l) q.0) (sym at.was) (among-right at.before ((q, at.value) ∷ at.after) q.0 (inl refl))
 
@@ -107,7 +101,6 @@ module _ {Gen T : Type 0} (q k : ℕ × Gen) (e : Item Gen T) (others items : Li
       (λ right. among-right at.before ((q, at.value) ∷ as_item e ∷ at.after) i (⊎_elim (λ is. inl is) (λ later. inr (inr later)) right))
       (among-parts at.before ((q, at.value) ∷ at.after) i (subst (λ (l : List (Item Gen (Entry T))). IsMember (indexes l) i) at.was has)))
 
--- A link of a list with `e` is `e`, or one of the others.
 pub without_item : {Gen T : Type 0} (h : ℕ × Gen) (before after : List (Item Gen T)) (e : Item Gen T) (i : ℕ) → IsMember (indexes (ring_of h (before ++ e ∷ after))) i → (e.0.0 ≡ i) ⊎ IsMember (indexes (ring_of h (before ++ after))) i
 without_item h before after e i has = ⊎_elim
     (λ head. inr (ring_has h (before ++ after) i (inl head)))
@@ -127,7 +120,6 @@ module _ {A Gen T : Type 0} {view : A → ArenaView Gen (Entry T)} {entry : A �
       has_p : IsMember (indexes (ring_of h (before ++ (p, t) ∷ after))) p.0
       has_p = has_item state interlinks old new p (p, t) h t before after
 
-      -- The list of `p` is another one than that of `k`.
       not_in : (k : ℕ × Gen) (others : List (Item Gen T)) (i : ℕ) → h ≢ k → IsList state interlinks old k others → IsMember (indexes (ring_of h (before ++ (p, t) ∷ after))) i → IsMember (indexes (ring_of k others)) i → ⊥
       not_in k others i other is in_h in_k = other (same_handle state interlinks old h k (before ++ (p, t) ∷ after) others i was is in_h in_k)
 
@@ -155,7 +147,6 @@ module _ {A Gen T : Type 0} {view : A → ArenaView Gen (Entry T)} {entry : A �
                 (λ has. none.1.0 (same_handle state interlinks old j k ys others q.0 there is has in_k)) there,
           )
 
-    -- Moving the link of `p` after the link of `q` moves the item as `place` states.
     pub item_moved : ((h : ℕ × Gen) (t : T) (before after items : List (Item Gen T)) → IsList state interlinks old h (before ++ (p, t) ∷ after) → place h (p, t) (before ++ after) items → ComesAfter q h (p, t) (before ++ after) items)
         → ((k : ℕ × Gen) (t : T) (others items : List (Item Gen T)) → IsList state interlinks old k others → place k (p, t) others items → ComesAfter q k (p, t) others items)
         → IsItemMoved state interlinks old new p place
@@ -174,7 +165,6 @@ module _ {A Gen T : Type 0} {view : A → ArenaView Gen (Entry T)} {entry : A �
   abbrev pub KeepsLinks : Type 0
   KeepsLinks = (k : ℕ × Gen) (t : T) (others items : List (Item Gen T)) → place k (p, t) others items → (i : ℕ) → ((p.0 ≡ i) ⊎ IsMember (indexes (ring_of k others)) i) → IsMember (indexes (ring_of k items)) i
 
-  -- After a move, each entry is in a list.
   pub each_moved : EachInList state interlinks old → IsItem (entry old) p → IsItemMoved state interlinks old new p place → KeepsLinks
       → ((h : ℕ × Gen) (t : T) (before after : List (Item Gen T)) → IsList state interlinks old h (before ++ (p, t) ∷ after) → Goes h t before after) → EachInList state interlinks new
   each_moved each item moved keeps goes =
@@ -200,7 +190,6 @@ module _ {A Gen T : Type 0} {view : A → ArenaView Gen (Entry T)} {entry : A �
             (λ has. no_k (keeps k t others items at i (inr has))),
           ))
 
--- Two handles of lists are the same, or not.
 pub handle_or_other : {Gen T : Type 0} (entry : ℕ → Option (Gen × Entry T)) (h k : ℕ × Gen) → IsHandle entry h → IsHandle entry k → (h ≡ k) ⊎ (h ≢ k)
 handle_or_other {Gen} entry h k one two = ⊎_elim
     (λ same. inl (same_pointer entry h k (head_valid entry h one) (head_valid entry k two) same))
@@ -209,7 +198,6 @@ handle_or_other {Gen} entry h k one two = ⊎_elim
 
 -- Where an item is moved.
 module _ {Gen T : Type 0} where
-  -- To the start: after the head.
   pub start_place : (h k : ℕ × Gen) (e : Item Gen T) (others items : List (Item Gen T)) → AtStart h k e others items → ComesAfter h k e others items
   start_place h k e others items (same, is) = record {
     value = entries.Head;
@@ -219,7 +207,6 @@ module _ {Gen T : Type 0} where
     is = ap (ring_of k) is ∙ ap (λ (q : ℕ × Gen). (q, entries.Head) ∷ as_item e ∷ map as_item others) same;
   }
 
-  -- Directly after an item.
   pub item_place : (q k : ℕ × Gen) (e : Item Gen T) (others items : List (Item Gen T)) → DirectlyAfter q k e others items → ComesAfter q k e others items
   item_place q k e others items (s, x, y, was, is) = record {
     value = entries.Item s;
@@ -229,7 +216,6 @@ module _ {Gen T : Type 0} where
     is = ap (ring_of k) is ∙ ring_parts k x ((q, s) ∷ e ∷ y);
   }
 
-  -- To the end: after the last link.
   pub end_place : (l k : ℕ × Gen) (e : Item Gen T) (others items : List (Item Gen T)) → Some l ≡ last_key (ring_of k others) → items ≡ others ++ e ∷ [] → ComesAfter l k e others items
   end_place l k e others items last is =
       let apart = last_apart (k, entries.Head) (map as_item others) in
@@ -243,11 +229,9 @@ module _ {Gen T : Type 0} where
         is = ap (ring_of k) is ∙ (ring_parts k others (e ∷ []) ∙ (ap (λ (x : List (Item Gen (Entry T))). x ++ as_item e ∷ []) was ∙ append_assoc apart.0 ((l, apart.1.1) ∷ []) (as_item e ∷ [])));
       }
 
-  -- The last link of a list whose last item is `z`.
   pub ring_last : (h : ℕ × Gen) (xs ys : List (Item Gen T)) (z : Item Gen T) → last_key (ring_of h (xs ++ (ys ++ z ∷ []))) ≡ Some z.0
   ring_last h xs ys z = ap (λ (l : List (Item Gen T)). last_key (ring_of h l)) (sym (append_assoc xs ys (z ∷ []))) ∙ (ap last_key (ring_parts h (xs ++ ys) (z ∷ [])) ∙ last_is (ring_of h (xs ++ ys)) (as_item z))
 
-  -- The links after a move are those before it, and `e`.
   pub keeps_place : (q k : ℕ × Gen) (e : Item Gen T) (others items : List (Item Gen T)) → ComesAfter q k e others items → (i : ℕ) → ((e.0.0 ≡ i) ⊎ IsMember (indexes (ring_of k others)) i) → IsMember (indexes (ring_of k items)) i
   keeps_place q k e others items at i (inl same) = subst (IsMember (indexes (ring_of k items))) same (has_new q k e others items at)
   keeps_place q k e others items at i (inr has) = has_others q k e others items at i has
@@ -259,7 +243,6 @@ module _ {Gen T : Type 0} where
       has)
 
 module _ {A Gen T : Type 0} {view : A → ArenaView Gen (Entry T)} {entry : A → ℕ → Option (Gen × Entry T)} (state : (a : A) → ArenaState (view a) (entry a)) (interlinks : A → LinkMap) where
-  -- The last link of a list with `p`, which is another one, is also the last one of the list without `p`.
   last_without : (a : A) (h p l : ℕ × Gen) (t : T) (before after : List (Item Gen T)) → l ≢ p → Some l ≡ last_key (ring_of h (before ++ (p, t) ∷ after)) → Some l ≡ last_key (ring_of h (before ++ after))
   last_without a h p l t before [] other last = absurd (other (one_some (last ∙ ring_last h before [] (p, t))))
   last_without a h p l t before (x ∷ xs) other last =
@@ -267,7 +250,6 @@ module _ {A Gen T : Type 0} {view : A → ArenaView Gen (Entry T)} {entry : A �
       let with_p = ap (λ (r : List (Item Gen T)). last_key (ring_of h (before ++ (p, t) ∷ r))) apart.2 ∙ ring_last h before ((p, t) ∷ apart.0) apart.1 in
       last ∙ (with_p ∙ sym (ap (λ (r : List (Item Gen T)). last_key (ring_of h (before ++ r))) apart.2 ∙ ring_last h before apart.0 apart.1))
 
-  -- If `p` is the last link of its list, nothing follows it.
   none_after : (a : A) (h p : ℕ × Gen) (t : T) (before after : List (Item Gen T)) → IsList state interlinks a h (before ++ (p, t) ∷ after) → Some p ≡ last_key (ring_of h (before ++ (p, t) ∷ after)) → after ≡ []
   none_after a h p t before [] is last = refl
   none_after a h p t before (x ∷ xs) is last =
@@ -278,7 +260,6 @@ module _ {A Gen T : Type 0} {view : A → ArenaView Gen (Entry T)} {entry : A �
       absurd ((apart (ring_of h before) (as_item (p, t)) (map as_item (x ∷ xs)) ring.chain.1).0 (among-right (ring_of h before) (map as_item (x ∷ xs)) p.0 (subst (λ (l : List ℕ). IsMember l p.0) (sym (indexes-items (x ∷ xs))) later)))
 
   module _ (old new : A) (p : ℕ × Gen) where
-    -- The link of `p` was moved after the link of `q`, unless that was not possible.
     pub can_move : (q : ℕ × Gen) (v : Entry T) → IsItem (entry old) p → entry old q.0 ≡ Some (q.1, v) → p ≢ q → CanMove (entry old) p q
     can_move q v item at other =
         let one = item_valid (entry old) p item.value item.stored in
@@ -291,7 +272,6 @@ module _ {A Gen T : Type 0} {view : A → ArenaView Gen (Entry T)} {entry : A �
     item_not_head : (h : ℕ × Gen) → IsItem (entry old) p → IsHandle (entry old) h → p ≢ h
     item_not_head h item head same = head_or_item (entry old) h p item.value head item.stored (sym (ap (λ (q : ℕ × Gen). q.0) same))
 
-    -- To the start of the list of `h`.
     pub moves_to_front : {P : Type 0} (key : P → ℕ × Gen) (a h : P) → key a ≡ p → (r : Option Unit) → IsItem (entry old) p → IsHandle (entry old) (key h) → MovesLinkAfter state interlinks key old a h r new → IfNone r (new ≡ old)
         → MovesToFront state interlinks old p (key h) r new
     moves_to_front key a h is_p None item head is same = absurd (is (subst (λ (q : ℕ × Gen). CanMove (entry old) q (key h)) (sym is_p) (can_move (key h) entries.Head item head (item_not_head (key h) item head))))
@@ -329,7 +309,6 @@ module _ {A Gen T : Type 0} {view : A → ArenaView Gen (Entry T)} {entry : A �
           last_of k items same is =
               subst (λ (q : ℕ × Gen). Some (key l) ≡ last_key (ring_of q items)) (sym same) (last items (subst (λ (q : ℕ × Gen). IsList state interlinks old q items) same is))
 
-      -- If `p` is the last link already, nothing changes.
       pub at_end_already : new ≡ old → ((items : List (Item Gen T)) → IsList state interlinks old h items → Some p ≡ last_key (ring_of h items)) → MovesToBack state interlinks old p h (Some tt) new
       at_end_already same last = subst (MovesToBack state interlinks old p h (Some tt)) (sym same) (
         item,
@@ -359,7 +338,6 @@ module _ {A Gen T : Type 0} {view : A → ArenaView Gen (Entry T)} {entry : A �
         (λ other. let list = list_of state interlinks old each h head in inr (h, list.0, list.0 ++ (p, t) ∷ [], other, list.1, (refl, refl)))
         (handle_or_other (entry old) k h was.are_stored.0 head))
 
-    -- Directly after the item of `q`.
     pub moves_after_item : {P : Type 0} (key : P → ℕ × Gen) (a q : P) → key a ≡ p → p ≢ key q → (r : Option Unit) → IsItem (entry old) p → IsItem (entry old) (key q) → MovesLinkAfter state interlinks key old a q r new → IfNone r (new ≡ old)
         → MovesAfterItem state interlinks old p (key q) r new
     moves_after_item key a q is_p other None item target is same = absurd (is (subst (λ (k : ℕ × Gen). CanMove (entry old) k (key q)) (sym is_p) (can_move (key q) (entries.Item target.value) item target.stored other)))
@@ -371,7 +349,6 @@ module _ {A Gen T : Type 0} {view : A → ArenaView Gen (Entry T)} {entry : A �
           (λ k t before after items was at. item_place (key q) k (p, t) (before ++ after) items at) (λ k t others items was at. item_place (key q) k (p, t) others items at),
     )
 
-    -- `q` is among the items of a list without `p`.
     still_among : (q : ℕ × Gen) (s t : T) (before after x y : List (Item Gen T)) → p ≢ q → before ++ (p, t) ∷ after ≡ x ++ (q, s) ∷ y → (u : List (Item Gen T)) × (v : List (Item Gen T)) × (before ++ after ≡ u ++ (q, s) ∷ v)
     still_among q s t before after x y other same = ⊎_elim
         (λ left. (x, left.0 ++ after, ap (λ (l : List (Item Gen T)). l ++ after) left.1 ∙ append_assoc x ((q, s) ∷ left.0) after))

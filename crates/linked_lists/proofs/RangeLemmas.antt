@@ -34,7 +34,6 @@ module _ {Gen T : Type 0} where
       ap (λ (l : List (Item Gen T)). last_key (map as_item l)) end.2 ∙ (ap last_key (map-append as_item end.0 (end.1 ∷ []))
       ∙ (last_is (map as_item end.0) (as_item end.1) ∙ ap (λ (k : ℕ × Gen). Some k) last))
 
-  -- What is none of some pointers is not the last of them.
   pub not_last : (es : List (Item Gen T)) (z q : ℕ × Gen) → last_key es ≡ Some z → IsNoneOf (pointers_of es) q → q ≢ z
   not_last [] z q is none same = absurd (let no = is in cc)
   not_last (e ∷ []) z q is none same = none.0 (same ∙ sym (one_some is))
@@ -53,7 +52,6 @@ module _ {Gen T : Type 0} where
   first_stored entry [] f is stored = absurd (let no = is in cc)
   first_stored entry (e ∷ es) f is stored = record { value = e.1; stored = subst (λ (k : ℕ × Gen). entry k.0 ≡ Some (k.1, entries.Item e.1)) (one_some is) stored.0 }
 
-  -- The ring of a list with a range, in its three parts.
   pub ring_three : (h : ℕ × Gen) (before range after : List (Item Gen T)) → ring_of h (before ++ range ++ after) ≡ ring_of h before ++ map as_item range ++ map as_item after
   ring_three h before range after = ring_parts h (before ++ range) after ∙ ap (λ (l : List (Item Gen (Entry T))). l ++ map as_item after) (ring_parts h before range)
 
@@ -86,7 +84,6 @@ module _ {A Gen V : Type 0} {view : A → ArenaView Gen V} {entry : A → ℕ �
       (right.0, are_stored-append (entry old) run v (are_stored-left (entry old) run (u ++ (l, s) ∷ v) is.are_stored) right.1))
       (whole state interlinks cyclic new u ((l, s) ∷ (run ++ v)) (subst (λ (i : List ℕ). IsChain (interlinks new) (cyclic i)) (append_assoc (indexes u) (l.0 ∷ indexes run) (indexes v) ∙ ap (λ (i : List ℕ). indexes u ++ l.0 ∷ i) (sym (map-append index_of run v))) chain))
 
-  -- The ring is listed from its start, before the run.
   pub run_within : (xs ys u w : List (Item Gen V)) → IsRing state interlinks old (xs ++ run ++ ys) → xs ++ ys ≡ u ++ (l, s) ∷ w → IsRing state interlinks new (u ++ (l, s) ∷ (run ++ w))
   run_within xs ys u w is split = ⊎_elim before after (in_one_part xs ys u w (l, s) split)
     where
@@ -133,7 +130,6 @@ module _ {A Gen T : Type 0} {view : A → ArenaView Gen (Entry T)} {entry : A �
       more_links : (i : ℕ) → IsMember (indexes (ring_of h (before ++ after))) i → IsMember (indexes (ring_of h (before ++ range ++ after))) i
       more_links i has = subst (λ (l : List (Item Gen T)). IsMember (indexes (ring_of h l)) i) (sym (append_assoc before range after)) (ring_more h before after (range ++ after) (λ j later. among-right range after j later) i has)
 
-      -- The list of the range is another one than that of `k`.
       not_in : (k : ℕ × Gen) (others : List (Item Gen T)) (i : ℕ) → h ≢ k → IsList state interlinks old k others → IsMember (indexes (ring_of h (before ++ range ++ after))) i → IsMember (indexes (ring_of k others)) i → ⊥
       not_in k others i other is in_h in_k = other (same_handle state interlinks old h k (before ++ range ++ after) others i was is in_h in_k)
 
@@ -171,7 +167,6 @@ module _ {A Gen T : Type 0} {view : A → ArenaView Gen (Entry T)} {entry : A �
               (among-parts (map as_item after) (ring_of h before) i more))
               (among-parts (map as_item range) (map as_item after ++ ring_of h before) i has))
 
-    -- Moving the run after the link of `q` moves the range as `place` states.
     pub range_moved : ((h : ℕ × Gen) (before range after items : List (Item Gen T)) → HasEnds range first last → IsList state interlinks old h (before ++ range ++ after) → place h range (before ++ after) items → RangeComesAfter q h range (before ++ after) items)
         → ((k : ℕ × Gen) (range others items : List (Item Gen T)) → IsList state interlinks old k others → place k range others items → RangeComesAfter q k range others items)
         → IsRangeMoved state interlinks old new first last place
@@ -190,7 +185,6 @@ module _ {A Gen T : Type 0} {view : A → ArenaView Gen (Entry T)} {entry : A �
   abbrev pub KeepsLinks : Type 0
   KeepsLinks = (k : ℕ × Gen) (range others items : List (Item Gen T)) → place k range others items → (i : ℕ) → (IsMember (indexes range) i ⊎ IsMember (indexes (ring_of k others)) i) → IsMember (indexes (ring_of k items)) i
 
-  -- After a move, each entry is in a list.
   pub each_range_moved : {q : ℕ × Gen} → EachInList state interlinks old → (at : IsRangeWithout state interlinks old first last q) → IsRangeMoved state interlinks old new first last place → KeepsLinks → RangeGoes at.handle at.before at.range at.after → EachInList state interlinks new
   each_range_moved {q} each at moved keeps goes = ⊎_elim within between goes
     where

@@ -21,7 +21,6 @@ use Rattle.linked_lists.proofs.RunLemmas.{last_among}
 use Rattle.linked_lists.proofs.RangeLemmas.{RangeComesAfter, ring_three, not_last, last_stored, first_stored, range_moved, each_range_moved}
 
 module _ {Gen T : Type 0} where
-  -- To the start: after the head.
   start_place : (h k : ℕ × Gen) (range others items : List (Item Gen T)) → RangeAtStart h k range others items → RangeComesAfter h k range others items
   start_place h k range others items (same, is) = record {
     value = entries.Head;
@@ -31,7 +30,6 @@ module _ {Gen T : Type 0} where
     is = ap (ring_of k) is ∙ (ap (λ (l : List (Item Gen (Entry T))). (k, entries.Head) ∷ l) (map-append as_item range others) ∙ ap (λ (j : ℕ × Gen). (j, entries.Head) ∷ (map as_item range ++ map as_item others)) same);
   }
 
-  -- To the end: after the last link.
   end_place : (l k : ℕ × Gen) (range others items : List (Item Gen T)) → Some l ≡ last_key (ring_of k others) → items ≡ others ++ range → RangeComesAfter l k range others items
   end_place l k range others items last is =
       let apart = last_apart (k, entries.Head) (map as_item others) in
@@ -46,7 +44,6 @@ module _ {Gen T : Type 0} where
             ∙ ap (λ (x : List (Item Gen (Entry T))). apart.0 ++ (l, apart.1.1) ∷ x) (sym (append-nil (map as_item range))))));
       }
 
-  -- Directly after an item.
   after_place : (q k : ℕ × Gen) (range others items : List (Item Gen T)) → RangeAfter q k range others items → RangeComesAfter q k range others items
   after_place q k range others items (s, x, y, was, is) = record {
     value = entries.Item s;
@@ -56,7 +53,6 @@ module _ {Gen T : Type 0} where
     is = ap (ring_of k) is ∙ (ring_three k x ((q, s) ∷ range) y ∙ append_assoc (ring_of k x) ((q, entries.Item s) ∷ map as_item range) (map as_item y));
   }
 
-  -- The links after a move are those before it, and the range.
   keeps_after : (q k : ℕ × Gen) (range others items : List (Item Gen T)) → RangeComesAfter q k range others items → (i : ℕ) → (IsMember (indexes range) i ⊎ IsMember (indexes (ring_of k others)) i) → IsMember (indexes (ring_of k items)) i
   keeps_after q k range others items at i has = subst (λ (l : List (Item Gen (Entry T))). IsMember (indexes l) i) (sym at.is) (⊎_elim
       (λ ranged. among-right at.before ((q, at.value) ∷ (map as_item range ++ at.after)) i (inr (among-left (map as_item range) at.after i (subst (λ (l : List ℕ). IsMember l i) (sym (indexes-items range)) ranged))))
@@ -76,7 +72,6 @@ module _ {Gen T : Type 0} where
   none_of_parts [] ys q s none = none.0 refl
   none_of_parts (x ∷ xs) ys q s none = none_of_parts xs ys q s none.1
 
-  -- An item that is not in the range is among the others.
   outside : (before range after x y : List (Item Gen T)) (q : ℕ × Gen) (s : T) → IsNoneOf (pointers_of range) q → before ++ range ++ after ≡ x ++ (q, s) ∷ y
       → (u : List (Item Gen T)) × (v : List (Item Gen T)) × (before ++ after ≡ u ++ (q, s) ∷ v)
   outside before range after x y q s none same = ⊎_elim
@@ -88,7 +83,6 @@ module _ {Gen T : Type 0} where
       (in_one_part (before ++ range) after x y (q, s) same)
 
 module _ {A Gen T : Type 0} {view : A → ArenaView Gen (Entry T)} {entry : A → ℕ → Option (Gen × Entry T)} (state : (a : A) → ArenaState (view a) (entry a)) (interlinks : A → LinkMap) where
-  -- A range starts with an item.
   pub range_starts : (a : A) (first last q : ℕ × Gen) → IsRangeWithout state interlinks a first last q → IsItem (entry a) first
   range_starts a first last q at = first_stored (entry a) at.range first at.ends.0 (range_stored at.before at.after (subst (AreEntries (entry a)) (ring_three at.handle at.before at.range at.after) at.list.are_stored))
     where
@@ -100,14 +94,12 @@ module _ {A Gen T : Type 0} {view : A → ArenaView Gen (Entry T)} {entry : A �
       (are_stored-left (entry a) (ring_of at.handle at.before ++ map as_item at.range) (map as_item at.after) (subst (AreEntries (entry a)) (ring_three at.handle at.before at.range at.after) at.list.are_stored)))
 
   module _ (old new : A) (first last : ℕ × Gen) where
-    -- The range can be moved after `l`, which is not its last item.
     can_splice : (q l : ℕ × Gen) → IsRangeWithout state interlinks old first last q → IsValid (entry old) l → l ≢ last → CanSplice (entry old) l first last
     can_splice q l at valid other =
         let item = range_starts old first last q at in
         let end = range_ends old first last q at in
         record { p_valid = valid; first_valid = item_valid (entry old) first item.value item.stored; last_valid = end; apart = λ same. other (same_pointer (entry old) l last valid end same) }
 
-    -- To the start of the list of `h`.
     pub moves_range_to_front : {P : Type 0} (key : P → ℕ × Gen) (f z h : P) → key f ≡ first → key z ≡ last → IsRangeWithout state interlinks old first last (key h) → IsHandle (entry old) (key h)
         → (r : Option Unit) → SplicesAfter state interlinks key old h f z r new → IfNone r (new ≡ old) → MovesRangeToFront state interlinks old first last (key h) r new
     moves_range_to_front key f z h is_f is_z at head None is same =
@@ -144,7 +136,6 @@ module _ {A Gen T : Type 0} {view : A → ArenaView Gen (Entry T)} {entry : A �
           last_of k items same is =
               subst (λ (j : ℕ × Gen). Some (key l) ≡ last_key (ring_of j items)) (sym same) (ends items (subst (λ (j : ℕ × Gen). IsList state interlinks old j items) same is))
 
-          -- A last link that does not end the range is that of the other items, too.
           last_without : (k : ℕ × Gen) (before range after : List (Item Gen T)) → last_key range ≡ Some last → Some (key l) ≡ last_key (ring_of k (before ++ range ++ after)) → Some (key l) ≡ last_key (ring_of k (before ++ after))
           last_without k before [] [] ends_range is = absurd (let none = ends_range in cc)
           last_without k before (e ∷ es) [] ends_range is =
@@ -155,7 +146,6 @@ module _ {A Gen T : Type 0} {view : A → ArenaView Gen (Entry T)} {entry : A �
               let end = last_apart x xs in
               is ∙ (ap (λ (r : List (Item Gen T)). last_key (ring_of k (before ++ range ++ r))) end.2 ∙ (ring_last k (before ++ range) end.0 end.1 ∙ sym (ap (λ (r : List (Item Gen T)). last_key (ring_of k (before ++ r))) end.2 ∙ ring_last k before end.0 end.1)))
 
-      -- If the range ends the list already, nothing changes.
       pub range_at_end : new ≡ old → ((items : List (Item Gen T)) → IsList state interlinks old h items → Some last ≡ last_key (ring_of h items)) → MovesRangeToBack state interlinks old first last h (Some tt) new
       range_at_end same ends = subst (MovesRangeToBack state interlinks old first last h (Some tt)) (sym same) (
         head,
@@ -174,7 +164,6 @@ module _ {A Gen T : Type 0} {view : A → ArenaView Gen (Entry T)} {entry : A �
         },
       )
         where
-          -- Nothing follows a range with the last link.
           none_after : (before range after : List (Item Gen T)) → last_key range ≡ Some last → IsList state interlinks old h (before ++ range ++ after) → Some last ≡ last_key (ring_of h (before ++ range ++ after)) → after ≡ []
           none_after before range [] ends_range is end = refl
           none_after before range (x ∷ xs) ends_range is end =
@@ -194,7 +183,6 @@ module _ {A Gen T : Type 0} {view : A → ArenaView Gen (Entry T)} {entry : A �
         (λ other. let list = list_of state interlinks old each h head in inr (h, list.0, list.0 ++ at.range, other, list.1, (refl, refl)))
         (handle_or_other (entry old) at.handle h at.list.are_stored.0 head))
 
-    -- Directly after the item of `q`.
     pub moves_range_after : {P : Type 0} (key : P → ℕ × Gen) (f z q : P) → key f ≡ first → key z ≡ last → IsRangeWithout state interlinks old first last (key q) → IsItem (entry old) (key q)
         → (r : Option Unit) → SplicesAfter state interlinks key old q f z r new → IfNone r (new ≡ old) → MovesRangeAfter state interlinks old first last (key q) r new
     moves_range_after key f z q is_f is_z at item None is same =

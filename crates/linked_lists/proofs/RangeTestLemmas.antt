@@ -38,7 +38,6 @@ module _ {Gen T : Type 0} where
   first_of_append [] e ys = refl
   first_of_append (x ∷ xs) e ys = refl
 
-  -- Lists that continue in the same way after an item that they have once.
   cut_at : (e : Item Gen T) (xs ys us vs : List (Item Gen T)) → (IsMember (indexes xs) e.0.0 → ⊥) → (IsMember (indexes us) e.0.0 → ⊥) → (f : Item Gen T) → f.0.0 ≡ e.0.0 → xs ++ e ∷ ys ≡ us ++ f ∷ vs → e ∷ ys ≡ f ∷ vs
   cut_at e [] ys [] vs no_left no_right f is same = same
   cut_at e [] ys (u ∷ us) vs no_left no_right f is same = absurd (no_right (inl (sym (ap (λ (x : Item Gen T). x.0.0) (let first : e ≡ u = cc in first)))))
@@ -74,7 +73,6 @@ module _ {A Gen T : Type 0} {view : A → ArenaView Gen (Entry T)} {entry : A �
         no_q = tt;
       }
 
-  -- The walk does not end before the head.
   pub never_ends : (walker : Walker) → ((k : ℕ) (rest : List ℕ) → passes_ahead (interlinks a) walker ≡ k ∷ rest → entry a k ≡ None) → (h : ℕ × Gen) (t : T) (before after : List (Item Gen T)) → IsList state interlinks a h (before ++ (first, t) ∷ after) → Passes walker → ⊥
   never_ends walker end h t before after is passes = by (passes h t before after is).rest (passes h t before after is).split (passes h t before after is).ahead
     where
@@ -85,7 +83,6 @@ module _ {A Gen T : Type 0} {view : A → ArenaView Gen (Entry T)} {entry : A �
           let there = are_stored-right (entry a) (map as_item (passes h t before after is).passed) (map as_item (e ∷ es)) (subst (AreEntries (entry a)) (ap (map as_item) split ∙ map-append as_item (passes h t before after is).passed (e ∷ es)) stored) in
           let none = ap is_some (end e.0.0 (indexes (map as_item es ++ ring_of h before)) ahead) in let some = ap is_some there.0 in let both = sym some ∙ none in cc
 
-  -- The first one of a range is at one place of its list.
   at_range : (h : ℕ × Gen) (t : T) (before after : List (Item Gen T)) → IsList state interlinks a h (before ++ (first, t) ∷ after) → (range : IsRangeWithout state interlinks a first last q) → (first, t) ∷ after ≡ range.range ++ range.after
   at_range h t before after is range = by range.range range.ends.0 range.list
     where
@@ -106,7 +103,6 @@ module _ {A Gen T : Type 0} {view : A → ArenaView Gen (Entry T)} {entry : A �
           ∙ ap (λ (d : Item Gen T). d ∷ (es ++ range.after)) (sym is_e)
 
   module _ (old new : Walker) (p : ℕ × Gen) (valid : IsValid (entry a) p) (step : step_of (interlinks a) old ≡ Some (p.0, new)) where
-    -- The walk passes the next item, or the head after the last one.
     next_passed : (h : ℕ × Gen) (t : T) (before after : List (Item Gen T)) → IsList state interlinks a h (before ++ (first, t) ∷ after) → (part : IsPartlyPassed (interlinks a) old last q h before ((first, t) ∷ after))
         → ((p ≡ h) × (part.rest ≡ [])) ⊎ ((e : Item Gen T) × (es : List (Item Gen T)) × (part.rest ≡ e ∷ es) × (e.0 ≡ p) × (passes_ahead (interlinks a) new ≡ indexes (map as_item es ++ ring_of h before)))
     next_passed h t before after is part = by part.rest part.split (sym (step_ahead (interlinks a) old new p.0 step) ∙ part.ahead)
@@ -142,7 +138,6 @@ module _ {A Gen T : Type 0} {view : A → ArenaView Gen (Entry T)} {entry : A �
         })
         (next_passed h t before after is part)
 
-    -- At the head, or at `q`, there was no `last` yet.
     pub no_range_at_head : (h : ℕ × Gen) (t : T) (before after : List (Item Gen T)) → IsList state interlinks a h (before ++ (first, t) ∷ after) → Passes old → IsHandle (entry a) p → IsRangeWithout state interlinks a first last q → ⊥
     no_range_at_head h t before after is passes head range =
         let part = passes h t before after is in
@@ -175,7 +170,6 @@ module _ {A Gen T : Type 0} {view : A → ArenaView Gen (Entry T)} {entry : A �
         (in_one_part range.range range.after part.passed es e whole))
         (next_passed h t before after is part)
 
-    -- At `last`, what was passed is the range.
     pub range_at_last : (h : ℕ × Gen) (t : T) (before after : List (Item Gen T)) → IsList state interlinks a h (before ++ (first, t) ∷ after) → Passes old → (IsHandle (entry a) p → ⊥) → p ≢ q → p ≡ last → IsRangeWithout state interlinks a first last q
     range_at_last h t before after is passes no_head not_q is_last =
         let part = passes h t before after is in

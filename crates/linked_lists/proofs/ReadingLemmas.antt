@@ -15,7 +15,6 @@ use Rattle.linked_lists.proofs.RingLemmas.{ring_rotated}
 use Rattle.linked_lists.proofs.ListLemmas.{ring_parts, head_or_item, item_of, list_of}
 
 module _ {Gen T P : Type 0} (entry : ℕ → Option (Gen × Entry T)) (key : P → ℕ × Gen) where
-  -- The pointer of an item is returned, and a handle is not.
   item_stays : (q r : Option P) → KeepsItemOnly entry key q r → (k : ℕ × Gen) → option_map key q ≡ Some k → IsItem entry k → option_map key r ≡ Some k
   item_stays None r kept k is item = absurd (let none = is in cc)
   item_stays (Some q) r kept k is item = ap (option_map key) (kept.item (subst (IsItem entry) (sym (one_some is)) item)) ∙ is
@@ -24,7 +23,6 @@ module _ {Gen T P : Type 0} (entry : ℕ → Option (Gen × Entry T)) (key : P �
   head_goes None r kept k is head = absurd (let none = is in cc)
   head_goes (Some q) r kept k is head = ap (option_map key) (kept.none (λ item. head_or_item entry k (key q) item.value head item.stored (sym (ap (λ (p : ℕ × Gen). p.0) (one_some is)))))
 
-  -- The first item before a head, or after one, is returned, if there is one.
   first_item : (q r : Option P) → KeepsItemOnly entry key q r → (h : ℕ × Gen) (xs : List (Item Gen T)) (more : List (Item Gen (Entry T))) → IsHandle entry h → AreEntries entry (map as_item xs)
       → option_map key q ≡ first_key (map as_item xs ++ (h, entries.Head) ∷ more) → option_map key r ≡ first_key xs
   first_item q r kept h [] more head stored is = head_goes q r kept h is head
@@ -54,7 +52,6 @@ module _ {A Gen T : Type 0} {view : A → ArenaView Gen (Entry T)} {entry : A �
     last = λ items is. last_item (entry a) key q r kept (key p) items [] is.are_stored.0 is.are_stored.1 (reads entries.Head (map as_item items) is);
   }
 
-  -- The ring of a list from an item on.
   from_item : (h : ℕ × Gen) (t : T) (before after : List (Item Gen T)) → IsList state interlinks a h (before ++ (key p, t) ∷ after) → IsRing state interlinks a ((key p, entries.Item t) ∷ map as_item after ++ ring_of h before)
   from_item h t before after is = ring_rotated state interlinks a (ring_of h before) ((key p, entries.Item t) ∷ map as_item after) (subst (IsRing state interlinks a) (ring_parts h before ((key p, t) ∷ after)) is)
 

@@ -15,7 +15,6 @@ module _ {A Gen V : Type 0} {view : A → ArenaView Gen V} {entry : A → ℕ �
     pub in_a_ring : IsValid (entry a) p
     in_a_ring = record { value = v; stored = is.are_stored.0 }
 
-    -- The next link is the next one in the ring.
     pub ring_continues : option_and_then (ptr_at (entry a)) (next_of (interlinks a) p.0) ≡ first_key (others ++ (p, v) ∷ [])
     ring_continues = ap (λ o. option_and_then (ptr_at (entry a)) (next_in o)) is.chain.2.0 ∙ key_of others is.are_stored.1
       where
@@ -23,7 +22,6 @@ module _ {A Gen V : Type 0} {view : A → ArenaView Gen V} {entry : A → ℕ �
         key_of [] s = ap (option_map (λ (x : Gen × V). (p.0, x.0))) is.are_stored.0
         key_of (e ∷ es) s = ap (option_map (λ (x : Gen × V). (e.0.0, x.0))) s.0
 
-    -- The previous link is the last one of the ring.
     pub ring_precedes : option_and_then (ptr_at (entry a)) (prev_of (interlinks a) p.0) ≡ last_key ((p, v) ∷ others)
     ring_precedes = ap (λ o. option_and_then (ptr_at (entry a)) (prev_in o)) is.chain.2.0 ∙ key_of (p, v) others is.are_stored
       where
@@ -31,7 +29,6 @@ module _ {A Gen V : Type 0} {view : A → ArenaView Gen V} {entry : A → ℕ �
         key_of e [] s = ap (option_map (λ (x : Gen × V). (e.0.0, x.0))) s.0
         key_of e (f ∷ fs) s = key_of f fs s.1 ∙ last_key-cons e f fs
 
-  -- A ring can be listed from any of its links.
   pub ring_rotated : (xs ys : List (Item Gen V)) → IsRing state interlinks a (xs ++ ys) → IsRing state interlinks a (ys ++ xs)
   ring_rotated xs ys is = record {
     chain = whole state interlinks cyclic a ys xs (rotated (interlinks a) (indexes xs) (indexes ys) (parts state interlinks cyclic a xs ys is.chain));

@@ -22,7 +22,6 @@ use Rattle.linked_lists.proofs.ListLemmas.{ring_parts, ring_has, ring_member, sa
 use Rattle.linked_lists.proofs.MoveLemmas.{entries_kept}
 
 module _ {Gen V : Type 0} where
-  -- Items from the first to the last are a run.
   pub is_run : (run : List (Item Gen V)) (f z : ℕ × Gen) → first_key run ≡ Some f → last_key run ≡ Some z → IsRun (indexes run) f.0 z.0
   is_run [] f z first last = absurd (let none = first in cc)
   is_run (x ∷ xs) f z first last =
@@ -33,7 +32,6 @@ module _ {Gen V : Type 0} where
             ∙ (last_or-append (indexes end.0) (end.1.0.0 ∷ []) None ∙ ap (λ (q : ℕ × Gen). Some q.0) same)),
       )
 
-  -- The first and the last of them are among them.
   pub first_among : (run : List (Item Gen V)) (f : ℕ × Gen) → first_key run ≡ Some f → IsMember (indexes run) f.0
   first_among [] f first = absurd (let none = first in cc)
   first_among (x ∷ xs) f first = inl (ap (λ (q : ℕ × Gen). q.0) (one_some first))
@@ -123,7 +121,6 @@ module _ {A Gen T : Type 0} {view : A → ArenaView Gen (Entry T)} {entry : A �
           (λ has. none.1.0 (same_handle state interlinks old j k zs ys f.0 there two has (inr (first_among run f first_is))))
           (λ has. none.1.0 (same_handle state interlinks old j k zs ys z.0 there two has (inr (last_among run z last_is_z)))) there
 
-  -- A list without items has none to move.
   pub nothing_appended : (h k : ℕ × Gen) → IsList state interlinks old k [] → IsAppended state interlinks old old h k
   nothing_appended h k empty = record {
     lists = λ xs ys one two.

@@ -22,14 +22,12 @@ use Rattle.linked_lists.proofs.InsertionLemmas.{has_item}
 use Rattle.linked_lists.proofs.MoveLemmas.{entries_kept}
 use Rattle.linked_lists.proofs.RunLemmas.{is_run, last_among, run_leaves, run_comes, run_elsewhere}
 
--- The last of more items is that of the last of them.
 last_of_more : {Gen V : Type 0} (xs : List (Item Gen V)) (e : Item Gen V) (es : List (Item Gen V)) → last_key (xs ++ e ∷ es) ≡ last_key (e ∷ es)
 last_of_more {Gen} {V} xs e es =
     let end = last_apart e es in
     ap (λ (l : List (Item Gen V)). last_key (xs ++ l)) end.2 ∙ (ap last_key (sym (append_assoc xs end.0 (end.1 ∷ []))) ∙ (last_is (xs ++ end.0) end.1 ∙ sym (ap last_key end.2 ∙ last_is end.0 end.1)))
 
 module _ {A Gen T : Type 0} {view : A → ArenaView Gen (Entry T)} {entry : A → ℕ → Option (Gen × Entry T)} (state : (a : A) → ArenaState (view a) (entry a)) (interlinks : A → LinkMap) (old mid new : A) where
-  -- An insertion, and then a change of links.
   then_kept : (q : ℕ × Gen) → IsEntryInserted state old entries.Head q mid → KeepsEntries state interlinks mid new → IsEntryInserted state old entries.Head q new
   then_kept q is kept = record {
     entries = subst (λ (f : ℕ → Option (Gen × Entry T)). IsInserted (entry old) f q entries.Head) (sym kept.0) is.entries;
@@ -43,7 +41,6 @@ module _ {A Gen T : Type 0} {view : A → ArenaView Gen (Entry T)} {entry : A �
 
   module _ (p q l : ℕ × Gen) (started : IsListStarted state interlinks old mid q) (ends : EndsListOf state interlinks old p l)
       (splices : Splices (interlinks mid) (interlinks new) q.0 p.0 l.0) (kept : KeepsEntries state interlinks mid new) where
-    -- The new handle is in no list that was there.
     not_new : (k : ℕ × Gen) (items : List (Item Gen T)) → IsList state interlinks old k items → IsMember (indexes (ring_of k items)) q.0 → ⊥
     not_new k items is has = let some = are_stored-some (entry old) (ring_of k items) q.0 is.are_stored has in let none = ap is_some started.head.entries.free in let both = sym some ∙ none in cc
 
@@ -90,7 +87,6 @@ module _ {A Gen T : Type 0} {view : A → ArenaView Gen (Entry T)} {entry : A �
       head = then_kept q started.head kept;
     }
 
-  -- The items were moved, since the pointers are valid.
   pub splits_off : {P : Type 0} (key : P → ℕ × Gen) (greatest : ℕ) (p q l : P) → IsItem (entry old) (key p) → IsListStarted state interlinks old mid (key q) → GrowsForOneMore greatest (view old) (view mid)
       → IsValid (entry old) (key l) → EndsListOf state interlinks old (key p) (key l) → (r : Option Unit) → SplicesAfter state interlinks key mid q p l r new → SplitsOff state interlinks key greatest old p (Ok (Some q)) new
   splits_off key greatest p q l item started grows valid ends None is = absurd (is (record {
@@ -110,7 +106,6 @@ module _ {A Gen T : Type 0} {view : A → ArenaView Gen (Entry T)} {entry : A �
       (item, is_split_off (key p) (key q) (key l) started ends is.1.chains kept, subst (λ (s : ArenaView Gen (Entry T)). GrowsForOneMore greatest (view old) s) (sym kept.1) grows)
 
 module _ {A Gen T : Type 0} {view : A → ArenaView Gen (Entry T)} {entry : A → ℕ → Option (Gen × Entry T)} (state : (a : A) → ArenaState (view a) (entry a)) (interlinks : A → LinkMap) (old new : A) (p q : ℕ × Gen) where
-  -- After a list was split, each entry is in a list.
   pub each_split : EachInList state interlinks old → IsItem (entry old) p → IsSplitOff state interlinks old new p q → EachInList state interlinks new
   each_split each item is i some =
       let at = place_of state interlinks old each p item.value item.stored in

@@ -19,7 +19,6 @@ use Rattle.linked_lists.specs.LinkedLists.{as_item, pointers_of, IsList, ListsIt
 use Rattle.linked_lists.proofs.RingLemmas.{ring_rotated}
 use Rattle.linked_lists.proofs.ListLemmas.{item_valid}
 
--- Lists with one more item at the end are the same without it.
 pub same_before : {X : Type 0} (xs ys : List X) (a b : X) → xs ++ a ∷ [] ≡ ys ++ b ∷ [] → xs ≡ ys
 same_before [] [] a b same = refl
 same_before [] (y ∷ []) a b same = absurd (let rest : [] ≡ b ∷ [] = cc in cc)
@@ -31,14 +30,12 @@ same_before {X} (x ∷ xs) (y ∷ ys) a b same =
     let rest : xs ++ a ∷ [] ≡ ys ++ b ∷ [] = cc in
     ap (λ c. c ∷ xs) first ∙ ap (λ (l : List X). y ∷ l) (same_before xs ys a b rest)
 
--- What is left without the last item.
 pub left_without_last : {X : Type 0} (old new : List X) (r : Option X) (n : ℕ) → n ≡ length old → old ≡ new ++ option_to_list r → (IsSome r ↔ (0 < n)) → (xs : List X) (a : X) → old ≡ xs ++ a ∷ [] → new ≡ xs
 left_without_last old new None n size is some xs a was =
     let many : length old ≡ length xs + 1 = ap length was ∙ length-append xs (a ∷ []) in
     absurd (let yes = some.1 (omega (arith, size, many)) in cc)
 left_without_last old new (Some b) n size is some xs a was = same_before new xs b a (sym is ∙ was)
 
--- An option is `Some` or `None`.
 pub some_or_none : {X : Type 0} (o : Option X) → IsSome o → o ≡ None → ⊥
 some_or_none None some none = cc
 some_or_none (Some x) some none = cc
@@ -48,7 +45,6 @@ last_of_list x [] = ([], x, refl)
 last_of_list {X} x (y ∷ ys) = let rest = last_of_list y ys in (x ∷ rest.0, rest.1, ap (λ (l : List X). x ∷ l) rest.2)
 
 module _ {P Gen V : Type 0} (key : P → ℕ × Gen) (entry : ℕ → Option (Gen × V)) where
-  -- Valid pointers to the indexes of stored items are their pointers.
   same_keys : (ptrs : List P) (es : List (Item Gen V)) → AllByRecursion (λ q. IsValid entry (key q)) ptrs → AreEntries entry es → map (λ q. (key q).0) ptrs ≡ indexes es → map key ptrs ≡ map (λ e. e.0) es
   same_keys [] [] valid stored same = refl
   same_keys [] (e ∷ es) valid stored same = absurd (cc)
@@ -64,7 +60,6 @@ pointers_then h [] = refl
 pointers_then {Gen} h (e ∷ items) = ap (λ (l : List (ℕ × Gen)). e.0 ∷ l) (pointers_then h items)
 
 module _ {A Gen T : Type 0} {view : A → ArenaView Gen (Entry T)} {entry : A → ℕ → Option (Gen × Entry T)} (state : (a : A) → ArenaState (view a) (entry a)) (interlinks : A → LinkMap) {P : Type 0} (key : P → ℕ × Gen) (a : A) (h : P) where
-  -- A walk from the first item passes the items and then the head.
   walked : (ptrs : List P) (first : P) (items : List (Item Gen T)) → IsList state interlinks a (key h) items → Some (key first) ≡ first_key items → IsWalk (interlinks a) (key first).0 (map (λ q. (key q).0) ptrs)
       → All (λ q. IsValid (entry a) (key q)) ptrs → map key ptrs ≡ pointers_of items ++ key h ∷ []
   walked ptrs first [] is at walk valid = absurd (let some = at in cc)
@@ -74,7 +69,6 @@ module _ {A Gen T : Type 0} {view : A → ArenaView Gen (Entry T)} {entry : A �
       let same = no_other_walk (interlinks a) x.0.0 (map (λ q. (key q).0) ptrs) (indexes (map as_item (x ∷ xs) ++ (key h, entries.Head) ∷ [])) from_first (of_cyclic (indexes (map as_item xs ++ (key h, entries.Head) ∷ [])) ring.chain) in
       same_keys key (entry a) ptrs (map as_item (x ∷ xs) ++ (key h, entries.Head) ∷ []) (recursion_from_All _ ptrs valid) ring.are_stored same ∙ pointers_then (key h) (x ∷ xs)
 
-  -- Without the last pointer, they are those of the items.
   pub lists_items : (first : P) (ptrs left : List P) (items : List (Item Gen T)) → IsList state interlinks a (key h) items → ReadsFirst state interlinks key a h (Some first) → IsWalk (interlinks a) (key first).0 (map (λ q. (key q).0) ptrs)
       → All (λ q. IsValid (entry a) (key q)) ptrs → ((xs : List P) (q : P) → ptrs ≡ xs ++ q ∷ [] → left ≡ xs) → ListsItems state interlinks key a h left
   lists_items first [] left items is reads walk valid cut = absurd (none items (walked [] first items is (reads.first items is) walk valid))
@@ -92,7 +86,6 @@ module _ {A Gen T : Type 0} {view : A → ArenaView Gen (Entry T)} {entry : A �
   lists_none [] is reads = ([], is, refl)
   lists_none (x ∷ xs) is reads = absurd (let none = reads.first (x ∷ xs) is in cc)
 
-  -- The first item is valid.
   pub first_is_valid : (first : P) (items : List (Item Gen T)) → IsList state interlinks a (key h) items → ReadsFirst state interlinks key a h (Some first) → IsValid (entry a) (key first)
   first_is_valid first [] is reads = absurd (let some = reads.first [] is in cc)
   first_is_valid first (x ∷ xs) is reads = subst (IsValid (entry a)) (sym (one_some (reads.first (x ∷ xs) is))) (item_valid (entry a) x.0 x.1 is.are_stored.1.0)

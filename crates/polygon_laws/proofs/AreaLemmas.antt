@@ -6,21 +6,17 @@ use Rattle.std.proofs.Math.IntN.{suc_ℤ, pred_ℤ, suc_ℤ-*ℤ, pred_ℤ-*ℤ,
 use Rattle.std.proofs.lemmas.Int.{ints}
 use Rattle.polygon_laws.specs.Areas.{Point, edge_area, path_area, double_area, AreaIsZeroWithoutEdges, TriangleIsOriented, AreaIsThatOfAnyTurn, ReversalNegatesArea, DiagonalSplitsArea, EarSplitsArea, BridgeAddsAreas}
 
--- A path is split at one of its corners.
 pub path_split : (ps : List Point) (p : Point) (qs : List Point) → path_area (ps ++ p ∷ qs) ≡ path_area (ps ++ p ∷ []) +ℤ path_area (p ∷ qs)
 path_split [] p qs = omega (arith, ints)
 path_split (o ∷ []) p qs = omega (arith, ints)
 path_split (o ∷ n ∷ ps) p qs = let rest = path_split (n ∷ ps) p qs in omega (arith, ints, rest)
 
--- There and back again.
 edge_back : (p q : Point) → edge_area q p ≡ neg_ℤ (edge_area p q)
 edge_back p q = omega (arith, ints)
 
--- The first corner comes last on the way back.
 reverse_first : (p : Point) (ps : List Point) → reverse (p ∷ ps) ≡ reverse ps ++ p ∷ []
 reverse_first p ps = reverse-append (p ∷ []) ps
 
--- The way back along a path.
 path_back : (ps : List Point) → path_area (reverse ps) ≡ neg_ℤ (path_area ps)
 path_back [] = refl
 path_back (p ∷ []) = refl
@@ -37,7 +33,6 @@ path_back (p ∷ q ∷ ps) =
 pub area_of_edges : AreaIsZeroWithoutEdges
 area_of_edges p q = (omega (arith, ints), omega (arith, ints))
 
--- Products of sums and differences.
 count_times : (n : ℕ) (b c : ℤ) → (pos n +ℤ b) *ℤ c ≡ pos n *ℤ c +ℤ b *ℤ c
 count_times zero b c = let none = zero-*ℤ c in let same : (pos 0 +ℤ b) *ℤ c ≡ b *ℤ c = ap (λ (k : ℤ). k *ℤ c) (+ℤ_idl b) in omega (arith, ints, none, same)
 count_times (suc n) b c =
@@ -46,7 +41,6 @@ count_times (suc n) b c =
     let all : (suc_ℤ (pos n) +ℤ b) *ℤ c ≡ (pos n +ℤ b) *ℤ c +ℤ c = ap (λ (k : ℤ). k *ℤ c) (suc_ℤ-+ℤ (pos n) b) ∙ suc_ℤ-*ℤ (pos n +ℤ b) c in
     omega (arith, ints, rest, one, all)
 
--- One less, in the first factor.
 one_less_times : (a b c : ℤ) → (a +ℤ b) *ℤ c ≡ a *ℤ c +ℤ b *ℤ c → (pred_ℤ a +ℤ b) *ℤ c ≡ pred_ℤ a *ℤ c +ℤ b *ℤ c
 one_less_times a b c rest =
     let one = pred_ℤ-*ℤ a c in
@@ -82,7 +76,6 @@ area_of_triangle p q r =
     let right_second = times_difference q.1 p.1 p.0 in
     omega (arith, ints, left, left_first, left_second, right, right_first, right_second)
 
--- The next corner comes first.
 turn_by_one : (p : Point) (ps : List Point) → double_area (ps ++ p ∷ []) ≡ double_area (p ∷ ps)
 turn_by_one p [] = refl
 turn_by_one p (q ∷ ps) =

@@ -18,12 +18,10 @@ use Rattle.arena_traits.specs.Entries.{ArenaView, ArenaState}
 use Rattle.chain_traits.proofs.GenericRemovalLemmas.{TakesEntry}
 use Rattle.polygons.specs.Rings.{AllCyclic}
 
--- An option that `is_some` holds an item.
 pub some_item : {X : Type 0} (o : Option X) → is_some o ≡ true → (x : X) × (o ≡ Some x)
 some_item None some = absurd (cc)
 some_item (Some x) some = (x, refl)
 
--- Inserting a link between two keeps all chains cyclic.
 pub cyclic_inserted : (old new : LinkMap) (q a b : ℕ) → InsertsPairs old new q (Some a) (Some b) → ((i : ℕ) → i ≢ q → HasLink old i → is_some (next_of old i) ≡ true) → AllCyclic new
 cyclic_inserted old new q a b inserts all_cyclic i has = ⊎_elim
     (λ is_a. ap is_some ((inserts.pairs i q).1 (inr (inl (ap Some (sym is_a), refl)))))
@@ -34,13 +32,11 @@ cyclic_inserted old new q a b inserts all_cyclic i has = ⊎_elim
     stays not_a not_q (inl was) = let next = some_item (next_of old i) (all_cyclic i not_q was) in ap is_some ((inserts.pairs i next.0).1 (inl (next.1, λ both. not_a (sym (one_some both.0)))))
     stays not_a not_q (inr is_q) = absurd (not_q is_q)
 
--- Inserting a link after another keeps all chains cyclic.
 pub cyclic_after : (old new : LinkMap) (q a : ℕ) → InsertsPairs old new q (Some a) (next_of old a) → HasLink old a → AllCyclic old → AllCyclic new
 cyclic_after old new q a inserts has all_cyclic =
     let next = some_item (next_of old a) (all_cyclic a has) in
     cyclic_inserted old new q a next.0 (subst (InsertsPairs old new q (Some a)) next.1 inserts) (λ i other at. all_cyclic i at)
 
--- Removing a link keeps all chains cyclic.
 pub cyclic_removed : (link_map : LinkMap) (q : ℕ) → IsWellLinked link_map → AllCyclic link_map → AllCyclic (with_removal link_map q)
 cyclic_removed link_map q agrees all_cyclic i has = continues (some_item (next_of link_map i) (all_cyclic i was.0))
   where
@@ -63,12 +59,10 @@ cyclic_removed link_map q agrees all_cyclic i has = continues (some_item (next_o
     continues : (j : ℕ) × (next_of link_map i ≡ Some j) → is_some (next_of (with_removal link_map q) i) ≡ true
     continues (j, next) = ⊎_elim (over j next) (λ other. ap is_some ((removes.pairs i j).1 (inl (next, was.1, other)))) (cases_eq j q)
 
--- The last item of a list is a member.
 last_in : (xs : List ℕ) (b : ℕ) → (k : ℕ) × (last_or xs (Some b) ≡ Some k) × ((b ≡ k) ⊎ IsMember xs k)
 last_in [] b = (b, refl, inl refl)
 last_in (x ∷ xs) b = let last = last_in xs x in (last.0, last.1, inr last.2)
 
--- If all links have a next one, no chain is linear.
 pub no_line : (links : LinkMap) (xs : List ℕ) → AllCyclic links → IsChain links (linear xs) → ⊥
 no_line links [] all_cyclic is = is.0 refl
 no_line links (x ∷ xs) all_cyclic is =
@@ -77,7 +71,6 @@ no_line links (x ∷ xs) all_cyclic is =
     let some = all_cyclic last.0 (members_are_links links (linear (x ∷ xs)) last.0 is last.2) in
     absurd (let both = sym some ∙ ap is_some none in cc)
 
--- If all chains are cyclic, each link is in a ring.
 pub ring_from : (links : LinkMap) (greatest i : ℕ) → IsWellLinked links → HasLinksWithin links greatest → AllCyclic links → HasLink links i → (rest : List ℕ) × IsChain links (cyclic (i ∷ rest))
 ring_from links greatest i agrees within all_cyclic has = by (has_chain links greatest agrees within i has)
   where
@@ -85,14 +78,12 @@ ring_from links greatest i agrees within all_cyclic has = by (has_chain links gr
     by (stored_in (linear xs) is at) = absurd (no_line links xs all_cyclic is)
     by (stored_in (cyclic xs) is at) = let ring = rotated_to links xs i is at in (ring.0, ring.1)
 
--- Inserting a link before another keeps all chains cyclic.
 pub cyclic_before : (old new : LinkMap) (greatest q b : ℕ) → InsertsPairs old new q (prev_of old b) (Some b) → IsWellLinked old → HasLinksWithin old greatest → HasLink old b → AllCyclic old → AllCyclic new
 cyclic_before old new greatest q b inserts agrees within has all_cyclic =
     let ring = ring_from old greatest b agrees within all_cyclic has in
     let prev = (rings_are_cyclic old (b ∷ ring.0) b ring.1 (inl refl)).1 in
     cyclic_inserted old new q prev.0 b (subst (λ (u : Option ℕ). InsertsPairs old new q u (Some b)) prev.1 inserts) (λ i other at. all_cyclic i at)
 
--- Reversing a chain keeps all chains cyclic.
 pub cyclic_turned : (old new : LinkMap) (greatest i : ℕ) → IsWellLinked old → HasLinksWithin old greatest → AllCyclic old → ((k : ℕ) → HasLink new k → HasLink old k) → Reverses old new i → AllCyclic new
 cyclic_turned old new greatest i agrees within all_cyclic was turns k has = by (ring_from old greatest k agrees within all_cyclic (was k has))
   where

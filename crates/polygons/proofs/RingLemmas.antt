@@ -30,7 +30,6 @@ use Rattle.chain_lists.proofs.ListChangeLemmas.{parts, whole, stays}
 use Rattle.chain_lists.proofs.ValueWriteLemmas.{has_new_value}
 use Rattle.polygons.proofs.CyclicLemmas.{some_item, ring_from}
 
--- The items at indexes that are occupied.
 pub items_at : {Gen T : Type 0} (entry : ℕ → Option (Gen × T)) (ks : List ℕ) → ((k : ℕ) → IsMember ks k → is_some (entry k) ≡ true) → (es : List (Item Gen T)) × (indexes es ≡ ks) × AreEntries entry es
 items_at entry [] some = ([], refl, tt)
 items_at entry (k ∷ ks) some =
@@ -46,7 +45,6 @@ mapped_twice : {X : Type 0} (f : X → X) (o : Option X) → option_map f (optio
 mapped_twice f None = refl
 mapped_twice f (Some x) = refl
 
--- Two insertions use the next two slots.
 pub next_two : {A Gen T : Type 0} {view : A → ArenaView Gen T} {entry : A → ℕ → Option (Gen × T)} (state : (a : A) → ArenaState (view a) (entry a)) (old first second : A) (c d : ℕ × Gen) (s t : T)
     → IsEntryInserted state old s c first → IsEntryInserted state first t d second → AreNextTwo (view old) (view second) c d
 next_two {Gen = Gen} {view = view} state old first second c d s t one two = record {
@@ -86,7 +84,6 @@ module _ {A Gen T : Type 0} {view : A → ArenaView Gen T} {entry : A → ℕ �
         key_of [] s = ap (option_map (λ (x : Gen × T). (p.0, x.0))) is.are_stored.0
         key_of (e ∷ es) s = ap (option_map (λ (x : Gen × T). (e.0.0, x.0))) s.0
 
-    -- The previous corner is the last in the ring.
     pub ring_precedes : option_and_then (ptr_at (entry a)) (prev_of (interlinks a) p.0) ≡ last_key ((p, t) ∷ others)
     ring_precedes = ap (λ o. option_and_then (ptr_at (entry a)) (prev_in o)) is.chain.2.0 ∙ key_of (p, t) others is.are_stored
       where
@@ -94,14 +91,12 @@ module _ {A Gen T : Type 0} {view : A → ArenaView Gen T} {entry : A → ℕ �
         key_of e [] s = ap (option_map (λ (x : Gen × T). (e.0.0, x.0))) s.0
         key_of e (f ∷ fs) s = key_of f fs s.1 ∙ last_key-cons e f fs
 
-  -- A ring can be listed from any of its corners.
   pub ring_rotated : (a : A) (xs ys : List (Item Gen T)) → IsRing state interlinks a (xs ++ ys) → IsRing state interlinks a (ys ++ xs)
   ring_rotated a xs ys is = record {
     chain = whole state interlinks cyclic a ys xs (rotated (interlinks a) (indexes xs) (indexes ys) (parts state interlinks cyclic a xs ys is.chain));
     are_stored = are_stored-append (entry a) ys xs (are_stored-right (entry a) xs ys is.are_stored) (are_stored-left (entry a) xs ys is.are_stored);
   }
 
-  -- If all chains are cyclic, the successors of any two links can be exchanged.
   can_exchange : (a : A) → ((i : ℕ) → is_some (entry a i) ≡ true → HasLink (interlinks a) i) → AllCyclic (interlinks a) → (p q : ℕ × Gen)
       → CanExchange (entry a) (interlinks a) p q ↔ (IsValid (entry a) p × IsValid (entry a) q)
   can_exchange a linked all_cyclic p q = (
@@ -116,7 +111,6 @@ module _ {A Gen T : Type 0} {view : A → ArenaView Gen T} {entry : A → ℕ �
 
   -- An exchange, by rings.
   module _ (old new : A) (p q : ℕ × Gen) (exchanges : Exchanges (interlinks old) (interlinks new) p.0 q.0) (same : entry new ≡ entry old) where
-    -- One ring is cut in two.
     cuts_in_two : IsCutInTwo state interlinks old new p q
     cuts_in_two s t x y is =
         let right = are_stored-right (entry old) x ((q, t) ∷ y) is.are_stored.1 in
@@ -125,22 +119,18 @@ module _ {A Gen T : Type 0} {view : A → ArenaView Gen T} {entry : A → ℕ �
           stays state interlinks cyclic old new same ((q, t) ∷ x) (right.0, are_stored-left (entry old) x ((q, t) ∷ y) is.are_stored.1) both.1,
         )
 
-    -- Two rings are merged.
     merges : AreMerged state interlinks old new p q
     merges s t x y first second apart = stays state interlinks cyclic old new same ((p, s) ∷ y ++ (q, t) ∷ x) (first.are_stored.0, are_stored-append (entry old) y ((q, t) ∷ x) second.are_stored.1 (second.are_stored.0, first.are_stored.1))
         (whole state interlinks cyclic new ((p, s) ∷ y) ((q, t) ∷ x) (exchanges.two_cyclic (indexes x) (indexes y) first.chain second.chain apart))
 
-    -- The other rings stay.
     keeps_exchanged : KeepsWithout state interlinks cyclic old new (p ∷ q ∷ [])
     keeps_exchanged xs absent is = stays state interlinks cyclic old new same xs is.are_stored ((exchanges.rest (cyclic (indexes xs)) absent.0 absent.1.0).0 is.chain)
 
-  -- Exchanging a corner with itself changes nothing.
   exchanged_itself : (old new : A) → ((i : ℕ) → is_some (entry old i) ≡ true → HasLink (interlinks old) i) → (p q : ℕ × Gen) → IsValid (entry old) p → IsWellLinked (interlinks old) → p ≡ q
       → interlinks new ≡ with_exchange (interlinks old) p.0 q.0 → interlinks new ≡ interlinks old
   exchanged_itself old new linked p q valid agrees same changed =
       changed ∙ subst (λ (k : ℕ × Gen). with_exchange (interlinks old) p.0 k.0 ≡ interlinks old) same (exchanged_with_itself (interlinks old) p.0 agrees (linked p.0 (ap is_some valid.stored)))
 
-  -- An exchange, or nothing if a pointer is not valid.
   pub exchanges_successors : {P : Type 0} (key : P → ℕ × Gen) (old new : A) (p q : P) → ((i : ℕ) → is_some (entry old i) ≡ true → HasLink (interlinks old) i) → IsWellLinked (interlinks old) → AllCyclic (interlinks old)
       → (r : Option Unit) → ExchangesNext state interlinks key old p q r new → IfNone r (new ≡ old) → ExchangesSuccessors state interlinks old (key p) (key q) r new
   exchanges_successors key old new p q linked agrees all_cyclic None is same = (λ valid. is ((can_exchange old linked all_cyclic (key p) (key q)).1 valid), same)
@@ -154,17 +144,14 @@ module _ {A Gen T : Type 0} {view : A → ArenaView Gen T} {entry : A → ℕ �
         rest = record { others = keeps_exchanged old new (key p) (key q) is.1.chains entries; entries = entries; view_after = is.1.view_after };
       }
 
-  -- With both pointers valid, the exchange was made.
   pub exchanged_valid : (old new : A) (p q : ℕ × Gen) (r : Option Unit) → ExchangesSuccessors state interlinks old p q r new → IsValid (entry old) p → IsValid (entry old) q → AreExchanged state interlinks old new p q
   exchanged_valid old new p q None is one two = absurd (is.0 (one, two))
   exchanged_valid old new p q (Some done) is one two = is
 
-  -- A ring depends only on entries and links.
   pub ring_viewed : (old new : A) → entry new ≡ entry old → interlinks new ≡ interlinks old → (xs : List (Item Gen T)) → IsRing state interlinks old xs → IsRing state interlinks new xs
   ring_viewed old new same linked xs is = stays state interlinks cyclic old new same xs is.are_stored (subst (λ (l : LinkMap). IsChain l (cyclic (indexes xs))) (sym linked) is.chain)
 
   module _ (old first second new : A) (u v c d : ℕ × Gen) (a b : T) where
-    -- Inserting the copies and an exchange split one ring.
     splits : entry old u.0 ≡ Some (u.1, a) → entry old v.0 ≡ Some (v.1, b) → InsertsBefore state interlinks cyclic old first u (c, a) → InsertsAfter state interlinks cyclic first second v (d, b)
         → IsCutInTwo state interlinks second new v c → IsSplit state interlinks old new u v c d
     splits at_u at_v before after cut s t x y is =
@@ -175,7 +162,6 @@ module _ {A Gen T : Type 0} {view : A → ArenaView Gen T} {entry : A → ℕ �
         let same_v : b ≡ t = ap (λ (e : Gen × T). e.1) (one_some (sym at_v ∙ (are_stored-right (entry old) x ((v, t) ∷ y) is.are_stored.1).0)) in
         (parts.0, subst (λ (w : T). IsRing state interlinks new ((c, s) ∷ (d, w) ∷ y)) same_v (subst (λ (w : T). IsRing state interlinks new ((c, w) ∷ (d, b) ∷ y)) same_u parts.1))
 
-    -- Inserting the copies and an exchange bridge two rings.
     bridges : entry old u.0 ≡ Some (u.1, a) → entry old v.0 ≡ Some (v.1, b) → IsInserted (entry old) (entry first) c a → IsInserted (entry first) (entry second) d b
         → InsertsBefore state interlinks cyclic old first u (c, a) → KeepsWithout state interlinks cyclic old first (u ∷ [])
         → InsertsAfter state interlinks cyclic first second v (d, b) → KeepsWithout state interlinks cyclic first second (v ∷ [])
@@ -204,18 +190,15 @@ module _ {A Gen T : Type 0} {view : A → ArenaView Gen T} {entry : A → ℕ �
         new_among (inr (inl is)) = copies_differ (entry old) (entry first) (entry second) c d a b gained also (sym is)
         new_among (inr (inr has)) = free ((v, t) ∷ y) two.are_stored (inr has)
 
-    -- A split keeps the other rings, which contain no copy.
     keeps_split : entry old c.0 ≡ None → KeepsWithout state interlinks cyclic old first (u ∷ []) → KeepsWithout state interlinks cyclic first second (v ∷ []) → KeepsWithout state interlinks cyclic second new (v ∷ c ∷ [])
         → KeepsWithout state interlinks cyclic old new (u ∷ v ∷ [])
     keeps_split free gained also cut xs absent is =
         cut xs (absent.1.0, ((λ has. let some = are_stored-some (entry old) xs c.0 is.are_stored has in let none = ap is_some free in let both = sym some ∙ none in cc), tt)) (also xs (absent.1.0, tt) (gained xs (absent.0, tt) is))
 
-  -- An exchange, or nothing, keeps the view.
   pub exchange_keeps_view : (old new : A) (p q : ℕ × Gen) (r : Option Unit) → ExchangesSuccessors state interlinks old p q r new → view new ≡ view old
   exchange_keeps_view old new p q None is = ap view is.1
   exchange_keeps_view old new p q (Some done) is = is.rest.view_after
 
-  -- Inserting the copies and an exchange split along a diagonal.
   pub split_along : (old first second new : A) (u v c d : ℕ × Gen) (a b : T) → entry old u.0 ≡ Some (u.1, a) → entry old v.0 ≡ Some (v.1, b)
       → IsItemBefore state interlinks cyclic old first u (c, a) → IsItemAfter state interlinks cyclic first second v (d, b)
       → (r : Option Unit) → ExchangesSuccessors state interlinks second v c r new → IsSplitAlong state interlinks old new u v c d
@@ -233,11 +216,9 @@ module _ {A Gen T : Type 0} {view : A → ArenaView Gen T} {entry : A → ℕ �
         next_two = subst (λ (s : ArenaView Gen T). AreNextTwo (view old) s c d) (sym change.rest.view_after) (next_two state old first second c d a b before.item after.item);
       }
 
-  -- A ring is determined by its first item.
   pub rings_agree : (a : A) (e : Item Gen T) (xs ys : List (Item Gen T)) → IsRing state interlinks a (e ∷ xs) → IsRing state interlinks a (e ∷ ys) → xs ≡ ys
   rings_agree a e xs ys one two = same_items (entry a) xs ys one.are_stored.1 two.are_stored.1 (one_cyclic (interlinks a) e.0.0 (indexes xs) (indexes ys) one.chain two.chain)
 
-  -- Each entry is in one ring.
   pub all_in_rings : (a : A) → ((i : ℕ) → is_some (interlinks a i) ≡ is_some (entry a i)) → (greatest : ℕ) → All (λ e. IsWithin greatest (index_of e)) (view a).entries → IsWellLinked (interlinks a) → AllCyclic (interlinks a)
       → AllInRings state interlinks a
   all_in_rings a alike greatest within agrees all_cyclic e at =
@@ -263,14 +244,12 @@ module _ {A Gen T : Type 0} {view : A → ArenaView Gen T} {entry : A → ℕ �
   reversed_on key old new p None is = tt
   reversed_on key old new p (Some done) is = is.1
 
-  -- A reversal, or nothing if `p` is not valid.
   pub reverses_ring : {P : Type 0} (key : P → ℕ × Gen) (old new : A) (p : P) (r : Option Unit) → ReversesChain state interlinks key old p r new → IfNone r (new ≡ old) → ReversesRing state interlinks old (key p) r new
   reverses_ring key old new p None is same = (is, same)
   reverses_ring key old new p (Some done) is same =
       let entries = same_entry state old new (ap (λ (s : ArenaView Gen T). s.entries) is.1.view_after) in
       (is.0, turns_over old new (key p) is.1.chains entries, record { others = keeps_turned old new (key p) is.1.chains entries; entries = entries; view_after = is.1.view_after })
 
-  -- A value is written, or nothing if `p` is not valid.
   pub replaces_point : {P : Type 0} (key : P → ℕ × Gen) (old new : A) (p : P) (t : T) (r : Option T) {W : Type 0} → ReplacesValue state key old p t r new → IfNone r (new ≡ old) → (W → interlinks new ≡ interlinks old) → OnSome r W
       → ReplacesPoint state interlinks old (key p) t r new
   replaces_point key old new p t None is same keeps written = (is, same)
@@ -278,7 +257,6 @@ module _ {A Gen T : Type 0} {view : A → ArenaView Gen T} {entry : A → ℕ �
 
   -- The same exchange twice restores each ring.
   module _ (old mid new : A) (p q : ℕ × Gen) (all : AllInRings state interlinks old) (one : AreExchanged state interlinks old mid p q) (two : AreExchanged state interlinks mid new p q) where
-    -- A ring from `p` on, with or without `q`.
     restored_from : (s : T) (others : List (Item Gen T)) → IsRing state interlinks old ((p, s) ∷ others) → IsRing state interlinks new ((p, s) ∷ others)
     restored_from s others is = ⊎_elim with_q without_q (IsMember-or_not (indexes others) q.0)
       where
@@ -303,14 +281,12 @@ module _ {A Gen T : Type 0} {view : A → ArenaView Gen T} {entry : A → ℕ �
             (two.cut s one.valid.1.value ring.others others (one.merged s one.valid.1.value others ring.others is ring.ring (λ has. ⊎_elim other apart has))).0)
             (cases_eq p.0 q.0)
 
-    -- A ring from `q` on without `p`.
     restored_other : (t : T) (others : List (Item Gen T)) → IsRing state interlinks old ((q, t) ∷ others) → (IsMember (indexes ((q, t) ∷ others)) p.0 → ⊥) → IsRing state interlinks new ((q, t) ∷ others)
     restored_other t others is apart =
         let ring = all (p, one.valid.0.value) one.valid.0.stored in
         (two.cut one.valid.0.value t others ring.others (one.merged one.valid.0.value t ring.others others ring.ring is
         (λ has. apart ((chains_share_each (interlinks old) (cyclic (p.0 ∷ indexes ring.others)) (cyclic (q.0 ∷ indexes others)) q.0 p.0 ring.ring.chain is.chain has (inl refl)).0 (inl refl))))).1
 
-    -- A ring is restored if it is when listed from one of its items.
     from_item : (k : ℕ × Gen) (xs : List (Item Gen T)) → IsValid (entry old) k → IsMember (indexes xs) k.0 → IsRing state interlinks old xs
         → ((t : T) (others : List (Item Gen T)) → IsRing state interlinks old ((k, t) ∷ others) → IsMember (indexes xs) p.0 ⊎ (IsMember (indexes ((k, t) ∷ others)) p.0 → ⊥) → IsRing state interlinks new ((k, t) ∷ others))
         → IsRing state interlinks new xs

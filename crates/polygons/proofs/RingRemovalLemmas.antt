@@ -13,7 +13,6 @@ use Rattle.chain_lists.specs.Lists.{Item, indexes, IsRing, KeepsWithout, IsItemR
 use Rattle.chain_lists.proofs.ItemListLemmas.{among-left, among-right, among-parts}
 use Rattle.polygons.specs.Rings.{AllInRings, IsRingOfCorner, ReadsNextInRing, RemovesRing, view_after_removals}
 
--- One more removal comes last.
 removed_last : {Gen T : Type 0} (following : Gen → Gen) (s : ArenaView Gen T) (xs : List (Item Gen T)) (e : Item Gen T) → view_after_removals following s (xs ++ e ∷ []) ≡ view_after_removal following (view_after_removals following s xs) e.0.0
 removed_last following s [] e = refl
 removed_last following s (x ∷ xs) e = removed_last following (view_after_removal following s x.0.0) xs e
@@ -36,7 +35,6 @@ module _ {A Gen T : Type 0} {view : A → ArenaView Gen T} {entry : A → ℕ �
     pub entries : (i : ℕ) → (IsMember (indexes removed) i → ⊥) → entry now i ≡ entry old i
     pub others : KeepsWithout state interlinks cyclic old now (p ∷ [])
 
-  -- At first all of the ring is left.
   pub all_left : (following : Gen → Gen) (old : A) (p : ℕ × Gen) → AllInRings state interlinks old → IsValid (entry old) p → IsPartlyRemoved following old old p p
   all_left following old p all valid =
       let ring = all (p, valid.value) valid.stored in
@@ -52,7 +50,6 @@ module _ {A Gen T : Type 0} {view : A → ArenaView Gen T} {entry : A → ℕ �
         others = λ xs absent is. is;
       }
 
-  -- The corner of `p` is in its ring.
   first_among : (a : A) (p : ℕ × Gen) (items : List (Item Gen T)) → IsRingOfCorner state interlinks a p items → IsMember (indexes items) p.0
   first_among a p [] is = absurd (let none = is.first in cc)
   first_among a p (e ∷ es) is = inl (let same : e.0 ≡ p = let first = is.first in cc in ap (λ (k : ℕ × Gen). k.0) same)
@@ -88,7 +85,6 @@ module _ {A Gen T : Type 0} {view : A → ArenaView Gen T} {entry : A → ℕ �
             (part.others xs absent is);
       }
 
-    -- Removing `at`, which has a next corner, goes on.
     pub removal_goes_on : (next : P) (r : Option T) → ReadsNextInRing state interlinks pointers.key now at (Some next) → RemovesItem state interlinks cyclic pointers now at r new → IsPartlyRemoved pointers.following old new p (pointers.key next)
     removal_goes_on next r reads removes = by part.rest refl part.left r removes
       where
@@ -102,7 +98,6 @@ module _ {A Gen T : Type 0} {view : A → ArenaView Gen T} {entry : A → ℕ �
             let ring = subst (λ (d : Item Gen T). IsRing state interlinks now (d ∷ es)) same left.1 in
             removes_one t es (is ∙ ap (λ (d : Item Gen T). d ∷ es) same) ring removes (pointers.key next) (reads.next t es ring)
 
-  -- Without a next corner, the whole ring is removed.
   pub all_removed : {P : Type 0} (key : P → ℕ × Gen) (following : Gen → Gen) (old now : A) (p : ℕ × Gen) (at : P) (n : ℕ) → IsPartlyRemoved following old now p (key at) → ReadsNextInRing state interlinks key now at None
       → n + count (view now) ≡ count (view old) → RemovesRing state interlinks following old p (Some n) now
   all_removed key following old now p at n part reads total = by part.rest part.ring part.left

@@ -14,12 +14,10 @@ use Rattle.polygons.specs.Rings.{AllCyclic, IsRingOfCorner, AreInOneRing, Passes
 use Rattle.polygons.proofs.CyclicLemmas.{no_line}
 use Rattle.polygons.proofs.RingLemmas.{items_at}
 
--- If all chains are cyclic, a walk is a ring.
 pub walk_is_ring : (links : LinkMap) (i : ℕ) (walk : List ℕ) → AllCyclic links → IsWalk links i walk → IsChain links (cyclic walk) × (first_or walk None ≡ Some i)
 walk_is_ring links i _ all_cyclic (of_linear before after is) = absurd (no_line links _ all_cyclic is)
 walk_is_ring links i _ all_cyclic (of_cyclic after is) = (is, refl)
 
--- Nothing of a walk is ahead if no entry is at the first index ahead.
 pub not_ahead : {X : Type 0} (links : LinkMap) (entry : ℕ → Option X) → ((k : ℕ) → HasLink links k → is_some (entry k) ≡ true) → (i j : ℕ) (walk ahead : List ℕ) → IsWalk links i walk → ((k : ℕ) → IsMember ahead k → IsMember walk k)
     → ((k : ℕ) (rest : List ℕ) → ahead ≡ k ∷ rest → entry k ≡ None) → IsMember ahead j → ⊥
 not_ahead links entry occupied i j walk [] is in_walk first has = absurd has
@@ -27,7 +25,6 @@ not_ahead links entry occupied i j walk (k ∷ rest) is in_walk first has =
     let some = occupied k (walk_valid links i walk is k (in_walk k (inl refl))) in let none = ap is_some (first k rest refl) in let both = sym some ∙ none in cc
 
 module _ {P Gen T : Type 0} (key : P → ℕ × Gen) (entry : ℕ → Option (Gen × T)) where
-  -- The items of valid pointers.
   items_of : (ptrs : List P) → AllByRecursion (λ q. IsValid entry (key q)) ptrs → (items : List (Item Gen T)) × (map key ptrs ≡ pointers_of items) × (indexes items ≡ map (λ q. (key q).0) ptrs) × AreEntries entry items
   items_of [] valid = ([], refl, refl, tt)
   items_of (q ∷ ptrs) valid =
@@ -35,7 +32,6 @@ module _ {P Gen T : Type 0} (key : P → ℕ × Gen) (entry : ℕ → Option (Ge
       ((key q, valid.0.value) ∷ more.0, ap (λ l. key q ∷ l) more.1, ap (λ l. (key q).0 ∷ l) more.2, (valid.0.stored, more.3))
 
 module _ {A Gen T : Type 0} {view : A → ArenaView Gen T} {entry : A → ℕ → Option (Gen × T)} (state : (a : A) → ArenaState (view a) (entry a)) (interlinks : A → LinkMap) (a : A) where
-  -- Items along a ring, from the index of `p` on, are the ring of `p`.
   from_corner : (p : ℕ × Gen) (items : List (Item Gen T)) → IsValid (entry a) p → AreEntries (entry a) items → IsChain (interlinks a) (cyclic (indexes items)) → first_or (indexes items) None ≡ Some p.0
       → IsRingOfCorner state interlinks a p items
   from_corner p [] valid are_stored chain first = absurd (cc)
@@ -46,7 +42,6 @@ module _ {A Gen T : Type 0} {view : A → ArenaView Gen T} {entry : A → ℕ �
         first = ap (λ (k : ℕ × Gen). Some k) (same_pointer (entry a) e.0 p (record { value = e.1; stored = are_stored.0 }) valid index);
       }
 
-  -- The pointers of a walk are those of a ring.
   pub lists_ring : {P : Type 0} (key : P → ℕ × Gen) (p : P) (ptrs : List P) → AllCyclic (interlinks a) → IsValid (entry a) (key p) → IsWalk (interlinks a) (key p).0 (map (λ q. (key q).0) ptrs) → All (λ q. IsValid (entry a) (key q)) ptrs
       → ListsRing state interlinks key a p ptrs
   lists_ring key p ptrs all_cyclic valid walk all =
@@ -54,7 +49,6 @@ module _ {A Gen T : Type 0} {view : A → ArenaView Gen T} {entry : A → ℕ �
       let ring = walk_is_ring (interlinks a) (key p).0 (indexes items.0) all_cyclic (subst (IsWalk (interlinks a) (key p).0) (sym items.2) walk) in
       (items.0, from_corner (key p) items.0 valid items.3 ring.0 ring.1, items.1)
 
-  -- The same for the outcome of a walk.
   pub walked : {P V E : Type 0} (key : P → ℕ × Gen) (p : P) (listed : V → List P) → AllCyclic (interlinks a) → (r : Result (Option V) E) → IfOk r (λ o. IsSome o ↔ IsValid (entry a) (key p))
       → IfOk r (λ o. IfSome o (λ v. IsWalk (interlinks a) (key p).0 (map (λ q. (key q).0) (listed v)))) → IfOk r (λ o. IfSome o (λ v. All (λ q. IsValid (entry a) (key q)) (listed v)))
       → IfOk r (λ o. IfSome o (λ v. ListsRing state interlinks key a p (listed v)))
@@ -70,7 +64,6 @@ module _ {A Gen T : Type 0} {view : A → ArenaView Gen T} {entry : A → ℕ �
         subst (λ (k : ℕ × Gen). IsWalk (interlinks a) k.0 (indexes (e ∷ es))) same (of_cyclic (indexes es) is.ring.chain),
       )
 
-  -- A walk that passes a corner is the ring of both.
   pub passed_in_ring : ((i : ℕ) → HasLink (interlinks a) i → is_some (entry a i) ≡ true) → AllCyclic (interlinks a) → (p q : ℕ × Gen) → PassesCorner (entry a) (interlinks a) p q ↔ AreInOneRing state interlinks a p q
   passed_in_ring occupied all_cyclic p q = (
     λ passes.

@@ -12,7 +12,6 @@ use Rattle.run_queues.specs.RunQueues.{TakesSteps}
 use Rattle.run_queues.proofs.TurnLemmas.{turns_fair}
 
 module _ {Gen : Type 0} (same : Gen → Gen → Bool) (same_is_equal : (g h : Gen) → (same g h ≡ true) ↔ (g ≡ h)) where
-  -- Two pointers are the same, or not.
   pub same_or_not : (p q : ℕ × Gen) → (p ≡ q) ⊎ (p ≡ q → ⊥)
   same_or_not p q = ⊎_elim
       (λ index. by_generation index (same p.1 q.1) refl)
@@ -24,13 +23,11 @@ module _ {Gen : Type 0} (same : Gen → Gen → Bool) (same_is_equal : (g h : Ge
       by_generation index false is = inr (λ both. let equal = (same_is_equal p.1 q.1).1 (ap (λ (k : ℕ × Gen). k.1) both) in cc)
 
 module _ {Gen T : Type 0} where
-  -- A task of a queue has its index there.
   member-among : (items : List (Item Gen T)) (x : ℕ × Gen) → IsAmong (pointers_of items) x → IsMember (indexes (map as_item items)) x.0
   member-among [] x h = absurd h
   member-among (e ∷ items) x (inl is) = inl (ap (λ (k : ℕ × Gen). k.0) is)
   member-among (e ∷ items) x (inr h) = inr (member-among items x h)
 
-  -- The first task of a queue is not in the rest.
   pub first_once : (items : List (Item Gen T)) (x : ℕ × Gen) (rest : List (ℕ × Gen)) → AreDistinct (indexes (map as_item items)) → pointers_of items ≡ x ∷ rest → IsAmong rest x → ⊥
   first_once [] x rest distinct written h = absurd (cc)
   first_once (e ∷ items) x rest distinct written h =
@@ -39,7 +36,6 @@ module _ {Gen T : Type 0} where
       distinct.0 (subst (IsMember (indexes (map as_item items))) (sym (ap (λ (k : ℕ × Gen). k.0) first)) (member-among items x (subst (λ (l : List (ℕ × Gen)). IsAmong l x) (sym tail) h)))
 
 module _ {A Gen T : Type 0} {view : A → ArenaView Gen (Entry T)} {entry : A → ℕ → Option (Gen × Entry T)} (state : (a : A) → ArenaState (view a) (entry a)) (interlinks : A → LinkMap) where
-  -- Turns of a queue of an arena are fair.
   pub queue_fair : ((p q : ℕ × Gen) → (p ≡ q) ⊎ (p ≡ q → ⊥)) → (old new : A) (q x y : ℕ × Gen) (tasks : List (Item Gen T)) (steps : List (Step (ℕ × Gen)))
       → IsList state interlinks old q tasks → TakesSteps state interlinks old new q (turn x ∷ steps ++ turn x ∷ [])
       → IsAmong (pointers_of tasks) y → x ≢ y → HasTurn steps y ⊎ Leaves steps y

@@ -12,11 +12,9 @@ use Rattle.run_queues.proofs.TurnLemmas.{among-parts}
 use Rattle.run_queues.proofs.FairnessLemmas.{queue_fair}
 use Rattle.run_queues.proofs.StepLemmas.{steps_of, turn_steps}
 
--- The queue of a removal.
 queue_of_removal : {Gen : Type 0} (l q : ℕ × Gen) → removes l ≡ removes q → l ≡ q
 queue_of_removal l q same = cc
 
--- One run after another.
 run_on : {K : Type 0} (first second : List (Step K)) (old mid new : List K) → IsRun first old mid → IsRun second mid new → IsRun (first ++ second) old new
 run_on {K = K} [] second old mid new one two = subst (λ (l : List K). IsRun second l new) one two
 run_on (step ∷ first) second old mid new one two = (one.0, one.1, run_on first second one.0 mid new one.2 two)
@@ -36,7 +34,6 @@ module _ {A Gen T : Type 0} {view : A → ArenaView Gen (Entry T)} {entry : A �
     turns : (p : ℕ × Gen) → HasTurn steps p → IsAmong changes (gives_turn q p)
     leaves : (p : ℕ × Gen) → Leaves steps p → OneTakesAway changes q p
 
-  -- A change removes the queue of `q`, or not.
   removed_or_kept : (change : Change Gen) (q : ℕ × Gen) → ((p : ℕ × Gen) → TakesAway change q p) ⊎ (change ≡ removes q → ⊥)
   removed_or_kept (creates h) q = inr (λ same. absurd (cc))
   removed_or_kept (spawns h p) q = inr (λ same. absurd (cc))

@@ -12,7 +12,6 @@ use Rattle.run_queues.specs.Histories.{Change, creates, spawns, gives_turn, move
 
 module _ {A Gen T : Type 0} {view : A → ArenaView Gen (Entry T)} {entry : A → ℕ → Option (Gen × Entry T)} (state : (a : A) → ArenaState (view a) (entry a)) (interlinks : A → LinkMap)
     {P I W : Type 0} (pointers : PointerKind P I Gen W) where
-  -- A change ends a task, or it stays one.
   stays_or_ends : (old new : A) (change : Change Gen) (p : ℕ × Gen) → Makes state interlinks pointers old change new → IsItem (entry old) p → Ends state interlinks pointers old change p ⊎ IsItem (entry new) p
   stays_or_ends old new (creates q) p made item = inr (kept_by_insertion state interlinks old new p item entries.Head q made.head)
   stays_or_ends old new (spawns q r) p made item = inr (kept_by_insertion state interlinks old new p item (entries.Item made.1) r made.2.item)

@@ -12,7 +12,6 @@ use Rattle.run_queues.specs.Turns.{Step, turn, come, leave, IsRun, HasTurn}
 use Rattle.run_queues.specs.RunQueues.{IsTurnTaken, TakesSteps}
 use Rattle.run_queues.specs.Histories.{Change, creates, spawns, gives_turn, moves, wakes_one, wakes_all, replaces, cancels, removes, grows, TakesAway, AreStepsOf, CallsTakeSteps}
 
--- The task of a step.
 leave_of : {K : Type 0} (x y : K) → leave x ≡ leave y → x ≡ y
 leave_of x y same = cc
 
@@ -20,7 +19,6 @@ turn_of : {K : Type 0} (x y : K) → turn x ≡ turn y → x ≡ y
 turn_of x y same = cc
 
 module _ {K : Type 0} where
-  -- All tasks of a queue leave, from the first one on.
   leave_all : (tasks : List K) → IsRun (map leave tasks) tasks []
   leave_all [] = refl
   leave_all (x ∷ tasks) = (tasks, ([], tasks, refl, refl), leave_all tasks)
@@ -37,22 +35,18 @@ module _ {Gen T : Type 0} where
 module _ {A Gen T : Type 0} {view : A → ArenaView Gen (Entry T)} {entry : A → ℕ → Option (Gen × Entry T)} (state : (a : A) → ArenaState (view a) (entry a)) (interlinks : A → LinkMap)
     {P I W : Type 0} (pointers : PointerKind P I Gen W) (decide : (p q : ℕ × Gen) → (p ≡ q) ⊎ (p ≡ q → ⊥)) where
   module _ (old new : A) where
-    -- A queue that keeps its tasks takes no step.
     no_step : (q : ℕ × Gen) → ((tasks : List (Item Gen T)) → IsList state interlinks old q tasks → IsList state interlinks new q tasks) → TakesSteps state interlinks old new q []
     no_step q kept tasks is = (tasks, kept tasks is, refl)
 
     module _ (all : AllInLists state interlinks old) where
-      -- The steps from the list of a queue to its next one.
       steps_to : (q : ℕ × Gen) (xs ys : List (Item Gen T)) (steps : List (Step (ℕ × Gen))) → IsList state interlinks old q xs → IsList state interlinks new q ys → IsRun steps (pointers_of xs) (pointers_of ys) → TakesSteps state interlinks old new q steps
       steps_to q xs ys steps was is run tasks given =
           let same : xs ≡ tasks = (all.once q q xs tasks q.0 was given (inl refl) (inl refl)).1 in
           (ys, is, subst (λ (l : List (Item Gen T)). IsRun steps (pointers_of l) (pointers_of ys)) same run)
 
-      -- A change of one queue is no step of another one.
       elsewhere : (h q : ℕ × Gen) (items : List (Item Gen T)) → Becomes state interlinks old new h items → (h ≡ q → ⊥) → TakesSteps state interlinks old new q []
       elsewhere h q items is other = no_step q (λ tasks was. is.others q tasks ((λ same. other (sym same)), tt) was)
 
-    -- A turn of the first task of the queue of `h` is a step of it.
     pub turn_steps : AllInLists state interlinks old → (h p : ℕ × Gen) → IsTurnTaken state interlinks old new h p → TakesSteps state interlinks old new h (turn p ∷ [])
     turn_steps all h p is = steps_to all h ((p, is.value) ∷ is.rest) (is.rest ++ (p, is.value) ∷ []) (turn p ∷ []) is.first is.last.list
         (pointers_of (is.rest ++ (p, is.value) ∷ []), (pointers_of is.rest, refl, pointers-append is.rest ((p, is.value) ∷ [])), refl)
@@ -94,7 +88,6 @@ module _ {A Gen T : Type 0} {view : A → ArenaView Gen (Entry T)} {entry : A �
       by_emptying ps away taken = (map leave ps, record { taken = taken; turns = λ p h. absurd (no_turn ps p h); leaves = λ p h. away p })
 
       module _ (all : AllInLists state interlinks old) where
-        -- A task leaves its queue.
         leaving : (h r : ℕ × Gen) (t : T) (before after : List (Item Gen T)) → IsList state interlinks old h (before ++ (r, t) ∷ after) → IsList state interlinks new h (before ++ after) → TakesSteps state interlinks old new h (leave r ∷ [])
         leaving h r t before after was is = steps_to all h (before ++ (r, t) ∷ after) (before ++ after) (leave r ∷ []) was is
             (pointers_of (before ++ after), (pointers_of before, pointers_of after, pointers-append before ((r, t) ∷ after), pointers-append before after), refl)
@@ -102,7 +95,6 @@ module _ {A Gen T : Type 0} {view : A → ArenaView Gen (Entry T)} {entry : A �
         coming : (h : ℕ × Gen) (xs ys : List (Item Gen T)) → IsList state interlinks old h xs → IsList state interlinks new h (xs ++ ys) → TakesSteps state interlinks old new h (come (pointers_of ys) ∷ [])
         coming h xs ys was is = steps_to all h xs (xs ++ ys) (come (pointers_of ys) ∷ []) was is (pointers_of (xs ++ ys), pointers-append xs ys, refl)
 
-        -- A task is moved to the end of the queue of `k`.
         by_move : (r k : ℕ × Gen) (t : T) → ((p : ℕ × Gen) → r ≡ p → TakesAway change q p) → HasItem (entry old) r t → IsHandle (entry old) k → IsItemMoved state interlinks old new r (AtEnd k) → Steps
         by_move r k t away item head moved =
             let at = all.items r t item in
@@ -131,7 +123,6 @@ module _ {A Gen T : Type 0} {view : A → ArenaView Gen (Entry T)} {entry : A �
             (decide h q))
             (decide h k)
 
-      -- A task that comes to the end of the queue of `h`.
       by_spawn : (all : AllInLists state interlinks old) (h p : ℕ × Gen) (t : T) → IsHandle (entry old) h → GrowsAtEnd state interlinks old new h (p, t) → Steps
       by_spawn all h p t head grown =
           let was = all.lists h head in
@@ -141,14 +132,12 @@ module _ {A Gen T : Type 0} {view : A → ArenaView Gen (Entry T)} {entry : A �
           (λ other. by_none (elsewhere all h q (was.0 ++ (p, t) ∷ []) is other))
           (decide h q)
 
-      -- A turn of the first task of the queue of `h`.
       by_turn : AllInLists state interlinks old → (h p : ℕ × Gen) → ((h ≡ q) → change ≡ gives_turn q p) → IsTurnTaken state interlinks old new h p → Steps
       by_turn all h p named is = ⊎_elim
           (λ same. by_turning p (named same) (subst (λ (i : ℕ × Gen). TakesSteps state interlinks old new i (turn p ∷ [])) same (turn_steps all h p is)))
           (λ other. by_none (elsewhere all h q (is.rest ++ (p, is.value) ∷ []) is.last other))
           (decide h q)
 
-      -- All tasks of the queue of `l` come to the end of that of `h`.
       by_append : AllInLists state interlinks old → (h l : ℕ × Gen) → ((p : ℕ × Gen) → l ≡ q → TakesAway change q p) → IsHandle (entry old) h → IsHandle (entry old) l → IsAppended state interlinks old new h l → Steps
       by_append all h l away queue list is =
           let xs = all.lists h queue in
@@ -163,7 +152,6 @@ module _ {A Gen T : Type 0} {view : A → ArenaView Gen (Entry T)} {entry : A �
           (decide l q))
           (decide h q)
 
-      -- A task of the queue of `at` has a new value.
       by_value : AllInLists state interlinks old → (p : ℕ × Gen) (t former : T) → HasItem (entry old) p former → ValueBecomes state interlinks old new p t → Steps
       by_value all p t former item is =
           let at = all.items p former item in
@@ -175,7 +163,6 @@ module _ {A Gen T : Type 0} {view : A → ArenaView Gen (Entry T)} {entry : A �
           (λ other. by_none (elsewhere all at.handle q (at.before ++ (p, t) ∷ at.after) after other))
           (decide at.handle q)
 
-      -- A task is removed.
       by_removal : AllInLists state interlinks old → (p : ℕ × Gen) (t : T) → ((r : ℕ × Gen) → p ≡ r → TakesAway change q r) → LeavesList state interlinks old new pointers p t → Steps
       by_removal all p t away is =
           let at = all.items p t is.removed.0 in
@@ -185,7 +172,6 @@ module _ {A Gen T : Type 0} {view : A → ArenaView Gen (Entry T)} {entry : A �
           (λ other. by_none (elsewhere all at.handle q (at.before ++ at.after) after other))
           (decide at.handle q)
 
-  -- The steps of each change.
   pub steps_of : CallsTakeSteps state interlinks pointers
   steps_of old new (creates h) q all is keeps = by_none old new (creates h) q (no_step old new q (λ tasks was. is.others q tasks tt was))
   steps_of old new (spawns h p) q all is keeps = by_spawn old new (spawns h p) q all h p is.1 is.0 is.2.list

@@ -3,7 +3,6 @@ use Rattle.std.proofs.Common.{◌≡◌, ◌⊎◌, inl, inr, ⊎_elim, List, []
 use Rattle.run_queues.specs.Turns.{Step, turn, come, leave, IsAmong, IsStep, IsRun, HasTurn, Leaves, IsAhead, TasksStayAhead, TurnsAreFair}
 
 module _ {K : Type 0} where
-  -- Both parts of a list are in it.
   pub among-left : (xs ys : List K) (y : K) → IsAmong xs y → IsAmong (xs ++ ys) y
   among-left [] ys y h = absurd h
   among-left (x ∷ xs) ys y (inl is) = inl is
@@ -18,7 +17,6 @@ module _ {K : Type 0} where
   among-parts (x ∷ xs) ys y (inl is) = inl (inl is)
   among-parts (x ∷ xs) ys y (inr h) = ⊎_elim (λ l. inl (inr l)) (λ r. inr r) (among-parts xs ys y h)
 
-  -- An item of two lists in a row is in the first or in the second one.
   split_of : (xs ys p s : List K) (x : K) → xs ++ ys ≡ p ++ x ∷ s → ((t : List K) × (xs ≡ p ++ x ∷ t)) ⊎ ((q : List K) × (p ≡ xs ++ q) × (ys ≡ q ++ x ∷ s))
   split_of [] ys p s x same = inr (p, refl, same)
   split_of (a ∷ xs) ys [] s x same = let first : a ≡ x = cc in inl (xs, ap (λ (b : K). b ∷ xs) first)
@@ -30,7 +28,6 @@ module _ {K : Type 0} where
       (λ right. inr (right.0, ap (λ (c : K). c ∷ p) (sym first) ∙ ap (λ (l : List K). a ∷ l) right.1, right.2))
       (split_of xs ys p s x rest)
 
-  -- The only item of a list.
   only : (e x : K) (q s : List K) → e ∷ [] ≡ q ++ x ∷ s → e ≡ x
   only e x [] s same = cc
   only e x (c ∷ []) s same = absurd (cc)
@@ -58,7 +55,6 @@ module _ {K : Type 0} where
           (split_of old xs p s x (sym is ∙ written));
     }
 
-    -- Without another item, `y` is still there.
     without : (e : K) (before after : List K) → (e ≡ y → ⊥) → IsAmong (before ++ e ∷ after) y → IsAmong (before ++ after) y
     without e before after other h = ⊎_elim
         (λ left. among-left before after y left)
@@ -93,7 +89,6 @@ module _ {K : Type 0} where
           more)
           (by_step step old run.0 run.1 ahead)
 
-  -- A run has two parts.
   run_parts : (first second : List (Step K)) (old new : List K) → IsRun (first ++ second) old new → (mid : List K) × IsRun first old mid × IsRun second mid new
   run_parts [] second old new run = (old, refl, run)
   run_parts (step ∷ first) second old new run = let rest = run_parts first second run.0 new run.2 in (rest.0, (run.0, run.1, rest.1), rest.2)
@@ -102,7 +97,6 @@ module _ {K : Type 0} where
     pub stay_ahead : TasksStayAhead K
     stay_ahead x y steps old new ahead run = by_run x y same_or_not steps old new ahead run
 
-    -- After its turn a task is behind all others. While another one is ahead, it has no turn.
     pub turns_fair : TurnsAreFair K
     turns_fair x y others new steps run once among =
         let after = run.0 in

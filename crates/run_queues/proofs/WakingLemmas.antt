@@ -10,7 +10,6 @@ use Rattle.linked_lists.specs.LinkedLists.{IsHandle, IsItem, IsList, AllInLists,
 use Rattle.run_queues.specs.RunQueues.{IsFirst, HasNoTask, TakesTurn, WakesOne}
 
 module _ {Gen T : Type 0} (decide : (p q : ℕ × Gen) → (p ≡ q) ⊎ (p ≡ q → ⊥)) (entry : ℕ → Option (Gen × Entry T)) where
-  -- A pointer is a handle, or not.
   handle_or_not : (h : ℕ × Gen) → IsHandle entry h ⊎ (IsHandle entry h → ⊥)
   handle_or_not h = by (entry h.0) refl
     where
@@ -25,7 +24,6 @@ module _ {Gen T : Type 0} (decide : (p q : ℕ × Gen) → (p ≡ q) ⊎ (p ≡ 
 module _ {A Gen T : Type 0} {view : A → ArenaView Gen (Entry T)} {entry : A → ℕ → Option (Gen × Entry T)} (state : (a : A) → ArenaState (view a) (entry a)) (interlinks : A → LinkMap)
     {P : Type 0} (key : P → ℕ × Gen) (decide : (p q : ℕ × Gen) → (p ≡ q) ⊎ (p ≡ q → ⊥)) where
   module _ (old : A) (all : AllInLists state interlinks old) where
-    -- Where no first task is read, there is none.
     pub none_first : (l : P) → ReadsFirst state interlinks key old l None → HasNoTask state interlinks old (key l)
     none_first l is head = let at = all.lists (key l) head in by at.0 at.1 (is.first at.0 at.1)
       where
@@ -33,7 +31,6 @@ module _ {A Gen T : Type 0} {view : A → ArenaView Gen (Entry T)} {entry : A �
         by [] list same = list
         by (e ∷ items) list same = absurd (cc)
 
-    -- The first task that is read is one.
     pub some_first : (l p : P) → ReadsFirst state interlinks key old l (Some p) → IsHandle (entry old) (key l) → IsFirst state interlinks old (key l) (key p)
     some_first l p is head = let at = all.lists (key l) head in by at.0 at.1 (is.first at.0 at.1)
       where
@@ -46,7 +43,6 @@ module _ {A Gen T : Type 0} {view : A → ArenaView Gen (Entry T)} {entry : A �
     first_item : (l p : ℕ × Gen) → IsFirst state interlinks old l p → IsItem (entry old) p
     first_item l p is = record { value = is.value; stored = is.list.are_stored.1.0 }
 
-    -- The first task could be moved.
     pub wakes_moved : (l q p : P) (new : A) → ReadsFirst state interlinks key old l (Some p) → MovesToBack state interlinks old (key p) (key q) (Some tt) new → WakesOne state interlinks key old l q (Some p) new
     wakes_moved l q p new first moved = ⊎_elim
         (λ head. record { first = some_first l p first head; queue = moved.1; moved = moved.2 })
@@ -56,7 +52,6 @@ module _ {A Gen T : Type 0} {view : A → ArenaView Gen (Entry T)} {entry : A �
     pub wakes_refused : (l q p : P) (new : A) → ReadsFirst state interlinks key old l (Some p) → MovesToBack state interlinks old (key p) (key q) None new → WakesOne state interlinks key old l q None new
     wakes_refused l q p new first moved = ((λ queue head. absurd (moved.0 (first_item (key l) (key p) (some_first l p first head), queue))), moved.1)
 
-  -- A wakening into the same queue is a turn.
   pub takes_turn : (old new : A) (q : P) (r : Option P) → WakesOne state interlinks key old q q r new → TakesTurn state interlinks key old q r new
   takes_turn old new q None is = ((λ head. is.0 head head), is.1)
   takes_turn old new q (Some p) is = record {

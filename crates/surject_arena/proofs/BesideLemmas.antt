@@ -31,7 +31,6 @@ module _ {A B P Gen K V : Type 0} (key : P → ℕ × Gen) {kview : A → ArenaV
   whole : IsSet (set_in key (kentry a)) (links a) set known.1
   whole = is.sets set known.1 (size_stored (ventry b) set.0 set.1 known.0 known.1 known.2)
 
-  -- The key is alone, and after itself; or another key is after it.
   abbrev IsNext : Type 0
   IsNext = ((next_of (links a) p.0 ≡ Some p.0) × (known.1 ≡ 1)) ⊎ ((j : ℕ) × (next_of (links a) p.0 ≡ Some j) × (j ≢ p.0) × (set_in key (kentry a) j ≡ Some set) × (1 < known.1))
 
@@ -44,7 +43,6 @@ module _ {A B P Gen K V : Type 0} (key : P → ℕ × Gen) {kview : A → ArenaV
       by [] chain same size = inl (ap next_in chain.2.0, omega (arith, size, whole.size))
       by (j ∷ tail) chain same size = inr (j, ap next_in chain.2.0, λ here. chain.1.0 (inl here), (whole.members j).0 ((same j).1 (inr (inl refl))), omega (arith, size, whole.size))
 
-  -- The pointer of the next key.
   next_pointer : (j : ℕ) → next_of (links a) p.0 ≡ Some j → option_and_then (ptr_at (kentry a)) (next_of (links a) p.0) ≡ ptr_at (kentry a) j
   next_pointer j next = ap (option_and_then (ptr_at (kentry a))) next
 

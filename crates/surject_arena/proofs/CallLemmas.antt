@@ -32,11 +32,9 @@ pub at_least_one : (xs : List ℕ) → xs ≢ [] → 1 ≤ length xs
 at_least_one [] filled = absurd (filled refl)
 at_least_one (x ∷ xs) filled = omega arith
 
--- An insertion does not depend on the capacity before.
 any_capacity : {Gen X : Type 0} (s new : ArenaView Gen X) (n : ℕ) (x : X) (p : ℕ × Gen) → IsAdded (with_capacity s n) x p new → IsAdded s x p new
 any_capacity s new n x p is = record { entries = is.entries; more = is.more; generation = is.generation; index = is.index; slots = is.slots; counter = is.counter; maximum = is.maximum }
 
--- A key is inserted into a set of its own after a growth for keys.
 pub inserts_set : {P Gen K V : Type 0} (key : P → ℕ × Gen) (greatest : ℕ) (old mid new : Surjection Gen K V) (k : K) (t : V) → GrowsKeys old mid → GrowsForOneMore greatest old.keys mid.keys → (result : Result P ReallocationError)
     → IsGrowthResult (RefusesOneMore mid.values) (λ p. IsSetAdded mid new k t (key p) × (new.keys.capacity ≡ mid.keys.capacity) × GrowsForOneMore greatest mid.values new.values) result
     → InsertsSet key greatest old k t result new
@@ -52,7 +50,6 @@ inserts_set {Gen = Gen} {K = K} {V = V} key greatest old mid new k t grows grown
   subst (λ (s : Surjection Gen K V). GrowsForOneMore greatest s.values new.values) grows.0 is.2,
 )
 
--- A refusal for one requirement is one for another that is met as well.
 pub refusal_to : (may might : Type 0) (refuses also_refuses : ReallocationError → Type 0) → (may → might) → (might → may) → ((why : ReallocationError) → refuses why → also_refuses why) → (e : ChainInsertionError)
     → IsInsertionRefusal may refuses e → IsInsertionRefusal might also_refuses e
 refusal_to may might refuses also_refuses forth back so failed.FailedLinkRequirement is = λ m. is (back m)
@@ -60,7 +57,6 @@ refusal_to may might refuses also_refuses forth back so failed.BeyondMaxCapacity
 refusal_to may might refuses also_refuses forth back so failed.AllocError is = (forth is.0, so refused.AllocError is.1)
 refusal_to may might refuses also_refuses forth back so failed.NotWithinCapacity is = is
 
--- A refused growth as a refusal of an insertion.
 pub refusal_of : (may : Type 0) (refuses : ReallocationError → Type 0) → may → (why : ReallocationError) → refuses why → IsInsertionRefusal may refuses (insertion_error why)
 refusal_of may refuses m refused.BeyondMaxCapacity is = (m, is)
 refusal_of may refuses m refused.AllocError is = (m, is)
@@ -120,7 +116,6 @@ module _ {A B P Gen K V : Type 0} (key : P → ℕ × Gen) (following : Gen → 
       redirected = refl;
     }
 
-  -- A write of a value keeps the sizes.
   pub partition_kept : (w : ℕ × Gen) (t u : V) (n : ℕ) → ventry b w.0 ≡ Some (w.1, counted t n) → vview d ≡ view_with_value (vview b) w.0 (counted u n) → (j : ℕ) → size_in (ventry d) j ≡ size_in (ventry b) j
   partition_kept w t u n stored written j = ⊎_elim
       (λ same. subst (λ (x : ℕ). size_in (ventry d) x ≡ size_in (ventry b) x) (sym same) (size_stored (ventry d) w.0 w.1 u n (value_written vstate b d w t u n n written stored) ∙ sym (size_stored (ventry b) w.0 w.1 t n stored)))

@@ -24,7 +24,6 @@ use Rattle.surject_arena.proofs.SetReadLemmas.{seen, key_of, of_key, set_stored,
 use Rattle.surject_arena.proofs.ViewLemmas.{each, index-each, each-valid, valid-each}
 
 module _ (to : ℕ → Option ℕ) where
-  -- The new indexes of a list.
   images : (xs : List ℕ) → ((i : ℕ) → IsMember xs i → (k : ℕ) × (to i ≡ Some k)) → (ys : List ℕ) × AreImages to xs ys
   images [] have = ([], tt)
   images (x ∷ xs) have =
@@ -50,7 +49,6 @@ module _ {Gen : Type 0} (set after : ℕ → Option (ℕ × Gen)) (links changed
     pub apart : (w u v : ℕ × Gen) → Moves w v → Moves u v → w ≡ u
 
   module _ (is : IsPartition set links size) (are : AreMoved) where
-    -- A moved key, and the former name of its set.
     back : (k : ℕ) (v : ℕ × Gen) → after k ≡ Some v → (i : ℕ) × (w : ℕ × Gen) × (to i ≡ Some k) × Moves w v × (set i ≡ Some w)
     back k v at =
         let from = are.onto k v at in
@@ -142,7 +140,6 @@ module _ {A B P Gen K V : Type 0} (key : P → ℕ × Gen) {kview : A → ArenaV
       let stored : (w.1, m.was.value) ≡ (u.1, n.was.value) = same_some (w.1, m.was.value) (u.1, n.was.value) (sym m.was.stored ∙ (ap (ventry b) index ∙ n.was.stored)) in
       name_is w u index (ap (λ (x : Gen × Counted V). x.0) stored)
 
-  -- The list has a name that is within the greatest index.
   name_within : (w v : ℕ × Gen) → Moves w v → (1 ≤ v.0) × (v.0 ≤ greatest)
   name_within w v m =
       let there = value_forth w m.was.value m.was.stored in
@@ -194,7 +191,6 @@ module _ {A B P Gen K V : Type 0} (key : P → ℕ × Gen) {kview : A → ArenaV
   pub compressed_partition : IsPartition (set_in key (kentry c)) changed (size_in (ventry d))
   compressed_partition = moved_partition (set_in key (kentry a)) (set_in key (kentry c)) links changed (size_in (ventry b)) (size_in (ventry d)) key_place Moves is are_moved
 
-  -- A place among mapped entries.
   place-each : {X Y : Type 0} (f : X → Y) (es : List ((ℕ × Gen) × X)) (i k : ℕ) → place_in (map index_of (map (each f) es)) i ≡ Some k → place_in (map index_of es) i ≡ Some k
   place-each f es i k at = subst (λ (l : List ℕ). place_in l i ≡ Some k) (index-each f es) at
 
@@ -205,7 +201,6 @@ module _ {A B P Gen K V : Type 0} (key : P → ℕ × Gen) {kview : A → ArenaV
     abbrev new : Surjection Gen K V
     new = seen key kstate vstate c d r
 
-    -- A moved key is in the set that its former set is moved to.
     moved_key : (p q w : ℕ × Gen) → IsMoved old.keys new.keys p q → IsKeyOf old w p → (v : ℕ × Gen) × Moves w v × IsKeyOf new v q
     moved_key p q w moved own =
         let there = key_forth p.0 w (of_key key kstate vstate a b r p w own).1 in
@@ -233,7 +228,6 @@ module _ {A B P Gen K V : Type 0} (key : P → ℕ × Gen) {kview : A → ArenaV
           generation_is = all_found (λ e. e.0.1 ≡ generation) v.0 (v.1, valid.value) (vview d).entries generations ((vstate d).finds v.0 ∙ valid.stored);
         }
 
-    -- A key is in one set.
     one_set : (p v u : ℕ × Gen) → IsKeyOf new v p → IsKeyOf new u p → v ≡ u
     one_set p v u in_v in_u = ap (λ (x : Gen × (K × (ℕ × Gen))). x.1.1) (same_some (p.1, (in_v.0, v)) (p.1, (in_u.0, u)) (sym in_v.1 ∙ in_u.1))
 
@@ -266,7 +260,6 @@ module _ {A B P Gen K V : Type 0} (key : P → ℕ × Gen) {kview : A → ArenaV
       redirected = refl;
     }
 
--- The keys of the members of a view.
 pub keys_seen : {P Gen K : Type 0} (key : P → ℕ × Gen) (es : List ((ℕ × Gen) × Member P K)) → map (λ (e : (ℕ × Gen) × (K × (ℕ × Gen))). (e.0, e.1.0)) (map (each (member_view key)) es) ≡ keys_of es
 keys_seen key [] = refl
 keys_seen key (e ∷ es) = ap (λ l. (e.0, e.1.key) ∷ l) (keys_seen key es)

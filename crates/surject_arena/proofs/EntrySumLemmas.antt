@@ -20,7 +20,6 @@ module _ {Gen X : Type 0} where
   AreOnce [] = ⊤
   AreOnce (e ∷ es) = (found e.0.0 es ≡ None) × AreOnce es
 
-  -- A removal leaves the rest, or the first entry and a removal from the rest.
   without_cases : (i : ℕ) (e : (ℕ × Gen) × X) (es : List ((ℕ × Gen) × X))
       → ((e.0.0 ≡ i) × (without_index i (e ∷ es) ≡ es)) ⊎ ((e.0.0 ≢ i) × (without_index i (e ∷ es) ≡ e ∷ without_index i es))
   without_cases i e es = ⊎_elim
@@ -37,7 +36,6 @@ module _ {Gen X : Type 0} where
       by true is rest = refl
       by false is rest = ap suc (rest is)
 
-  -- A removal takes the weight of its entry, and a write replaces it.
   pub weight-without : (weight : X → ℕ) (i : ℕ) (es : List ((ℕ × Gen) × X)) (x : Gen × X) → found i es ≡ Some x → total_weight weight es ≡ weight x.1 + total_weight weight (without_index i es)
   weight-without weight i [] x stored = absurd (cc)
   weight-without weight i (e ∷ es) x stored = by (e.0.0 == i) stored (weight-without weight i es x)
@@ -56,11 +54,9 @@ module _ {Gen X : Type 0} where
       by true is rest = let same : weight e.1 ≡ weight x.1 = ap (λ (y : Gen × X). weight y.1) (same_some (e.0.1, e.1) x is) in omega (arith, same)
       by false is rest = omega (arith, rest is)
 
-  -- An entry weighs no more than all.
   pub weight_within : (weight : X → ℕ) (i : ℕ) (es : List ((ℕ × Gen) × X)) (x : Gen × X) → found i es ≡ Some x → weight x.1 ≤ total_weight weight es
   weight_within weight i es x stored = omega (arith, weight-without weight i es x stored)
 
-  -- Removals and writes keep indexes distinct.
   pub once-without : (i : ℕ) (es : List ((ℕ × Gen) × X)) → AreOnce es → AreOnce (without_index i es)
   once-without i [] once = tt
   once-without i (e ∷ es) once = ⊎_elim
@@ -75,7 +71,6 @@ module _ {Gen X : Type 0} where
       (λ other. subst AreOnce (sym (writes_later i t e es other)) (found-unwritten e.0.0 i t es other ∙ once.0, once-written i t es once.1))
       (cases_eq e.0.0 i)
 
-  -- Entries are distinct if they are without one, whose index is then free.
   once_with : (i : ℕ) (es : List ((ℕ × Gen) × X)) → found i (without_index i es) ≡ None → AreOnce (without_index i es) → AreOnce es
   once_with i [] free once = tt
   once_with i (e ∷ es) free once = ⊎_elim
@@ -88,7 +83,6 @@ module _ {Gen X : Type 0} where
       (sym (found-kept e.0.0 i es past.0) ∙ rest.0, once_with i es (sym (past_first e i (without_index i es) past.0) ∙ (ap (found i) (sym past.1) ∙ free)) rest.1))
       (without_cases i e es)
 
-  -- A list that is no longer than distinct entries, and has them all, has them only.
   same_entries : (weight : X → ℕ) (es fs : List ((ℕ × Gen) × X)) → AreOnce es → length fs ≤ length es → ((i : ℕ) (x : Gen × X) → found i es ≡ Some x → found i fs ≡ Some x)
       → (total_weight weight fs ≡ total_weight weight es) × AreOnce fs × ((i : ℕ) → found i fs ≡ found i es)
   same_entries weight [] [] once short has = (refl, tt, λ i. refl)
@@ -108,7 +102,6 @@ module _ {Gen X : Type 0} where
       by i at rest (inl same) = ap (λ (k : ℕ). found k fs) (sym same) ∙ (at ∙ sym (at_first e i es same))
       by i at rest (inr other) = sym (found-kept i e.0.0 fs (λ same. other (sym same))) ∙ (rest i ∙ sym (past_first e i es other))
 
-  -- An insertion adds its weight, and keeps indexes distinct.
   pub weight-added : (weight : X → ℕ) (old new : ArenaView Gen X) (t : X) (p : ℕ × Gen) → AreOnce old.entries → IsAdded old t p new → (total_weight weight new.entries ≡ weight t + total_weight weight old.entries) × AreOnce new.entries
   weight-added weight old new t p once added =
       let longer = length-without p.0 new.entries (p.1, t) added.entries.stored in

@@ -11,7 +11,6 @@ use Rattle.surject_arena.proofs.OptionLemmas.{same_some, none_some, from_mapped}
 use Rattle.surject_arena.proofs.PartitionLemmas.{name_is}
 
 module _ {Gen K : Type 0} where
-  -- After an insertion, a key is the new one or was there.
   added_key : (old new : ArenaView Gen (K × (ℕ × Gen))) (k : K) (set p : ℕ × Gen) → IsAdded old (k, set) p new → (i u : ℕ × Gen) (l : K) → entry_in new i.0 ≡ Some (i.1, (l, u))
       → ((i ≡ p) × (u ≡ set)) ⊎ (entry_in old i.0 ≡ Some (i.1, (l, u)))
   added_key old new k set p added i u l stored = ⊎_elim
@@ -25,7 +24,6 @@ module _ {Gen K : Type 0} where
   kept_key old new k set p added i u l stored = added.entries.rest i.0 (λ same. none_some (i.1, (l, u)) (entry_in old p.0) added.entries.free (ap (entry_in old) (sym same) ∙ stored)) ∙ stored
 
 module _ {Gen : Type 0} where
-  -- The pairs of a list are those of its first change and those of the rest.
   first_pairs : (change : Change Gen) (changes : List (Change Gen)) (i j : ℕ × Gen) → HasPair (pairs_of (change ∷ [])) i j → HasPair (pairs_of (change ∷ changes)) i j
   first_pairs (starts_set p) changes i j pair = absurd pair
   first_pairs (adds_key p q) changes i j (inl same) = inl same
@@ -49,7 +47,6 @@ module _ {Gen : Type 0} where
   split_pairs grows changes i j pair = inr pair
 
 module _ {Gen K V : Type 0} where
-  -- A pointer of a key of a set is one of a key; it is in no other set.
   pub is_key : (s : Surjection Gen K V) (w p : ℕ × Gen) → IsKeyOf s w p → IsKey s p
   is_key s w p in_w = record { value = (in_w.0, w); stored = in_w.1 }
 
@@ -62,7 +59,6 @@ module _ {Gen K V : Type 0} where
   one_set : (s : Surjection Gen K V) (u w p : ℕ × Gen) → IsKeyOf s u p → IsKeyOf s w p → u ≡ w
   one_set s u w p in_u in_w = same_some u w (sym (set_of s u p in_u) ∙ set_of s w p in_w)
 
-  -- The key at an index is in the set at the index.
   key_of_set : (s : Surjection Gen K V) (p w : ℕ × Gen) (k : K) → key_at s p.0 ≡ Some (p.1, k) → set_at s p.0 ≡ Some w → IsKeyOf s w p
   key_of_set s p w k key set =
       let e = from_mapped (λ (x : Gen × (K × (ℕ × Gen))). let y : Gen × K = (x.0, x.1.0) in y) (entry_in s.keys p.0) (p.1, k) key in
@@ -72,7 +68,6 @@ module _ {Gen K V : Type 0} where
   key_stored : (s : Surjection Gen K V) (p w : ℕ × Gen) (in_w : IsKeyOf s w p) → key_at s p.0 ≡ Some (p.1, in_w.0)
   key_stored s p w in_w = ap (option_map (λ e. (e.0, e.1.0))) in_w.1
 
-  -- The name of a set with a value is determined by its index.
   pub same_name : (s : Surjection Gen K V) (u w : ℕ × Gen) (t r : V) (n m : ℕ) → HasValue s u t n → HasValue s w r m → u.0 ≡ w.0 → u ≡ w
   same_name s u w t r n m has_u has_w same =
       let both : (u.1, (t, n)) ≡ (w.1, (r, m)) = same_some (u.1, (t, n)) (w.1, (r, m)) (sym has_u ∙ (ap (entry_in s.values) same ∙ has_w)) in
@@ -81,7 +76,6 @@ module _ {Gen K V : Type 0} where
   module _ (following : Gen → Gen) (old new : Surjection Gen K V) (is : IsSurjection old) where
     -- A set absorbs another one.
     module _ (to from : ℕ × Gen) (t : V) (absorbs : IsAbsorbed old new following to from t) where
-      -- Whether a set is the absorbed one.
       is_from : (i u : ℕ × Gen) → IsKeyOf old u i → (u ≡ from) ⊎ (set_at old i.0 ≢ Some from)
       is_from i u in_u = ⊎_elim
           (λ same. let known = is.valued i.0 u (set_of old u i in_u) in inl (same_name old u from known.0 t known.1 absorbs.more known.2 absorbs.dropped same))
@@ -94,7 +88,6 @@ module _ {Gen K V : Type 0} where
       other_stays : (i u : ℕ × Gen) (in_u : IsKeyOf old u i) → set_at old i.0 ≢ Some from → IsKeyOf new u i
       other_stays i u in_u not_from = key_of_set new i u in_u.0 (absorbs.keys i.0 ∙ key_stored old i u in_u) (absorbs.sets i.0 not_from ∙ set_of old u i in_u)
 
-      -- A key of the new set `to` was in `from` or in `to`; other sets are as before.
       was_in : (i u : ℕ × Gen) → IsKeyOf new u i → ((u ≡ to) × IsKeyOf old from i) ⊎ IsKeyOf old u i
       was_in i u in_u =
           let e = from_mapped (λ (x : Gen × (K × (ℕ × Gen))). let y : Gen × K = (x.0, x.1.0) in y) (entry_in old.keys i.0) (i.1, in_u.0) (sym (absorbs.keys i.0) ∙ key_stored new i u in_u) in
@@ -117,7 +110,6 @@ module _ {Gen K V : Type 0} where
       pub absorbed_joins : (i j : ℕ × Gen) → IsKeyOf old to i → IsKeyOf old from j → AreInOneSet new i j
       absorbed_joins i j in_to in_from = (to, other_stays i to in_to (λ at. absorbs.differ (same_some to from (sym (set_of old to i in_to) ∙ at))), from_moves j in_from)
 
-      -- If the old sets are equated, and one key of each set with the other, so are the new ones.
       pub absorbed_equates : (pairs : List ((ℕ × Gen) × (ℕ × Gen))) (a b : ℕ × Gen) → IsKeyOf old to a → IsKeyOf old from b → AreEquated pairs a b → ((i j : ℕ × Gen) → AreInOneSet old i j → AreEquated pairs i j)
           → (i j : ℕ × Gen) → AreInOneSet new i j → AreEquated pairs i j
       absorbed_equates pairs a b in_to in_from meets old_equates i j one = by (was_in i one.0 one.1) (was_in j one.0 one.2)
@@ -132,7 +124,6 @@ module _ {Gen K V : Type 0} where
           by (inr x) (inl y) = turned j i (across j i one.0 y.0 y.1 x)
           by (inr x) (inr y) = old_equates i j (one.0, x, y)
 
-    -- A change keeps keys together.
     pub change_keeps : (change : Change Gen) → Makes following old change new → (i j : ℕ × Gen) → AreInOneSet old i j → AreInOneSet new i j
     change_keeps (starts_set p) made i j one =
         (one.0, (one.1.0, kept_key old.keys new.keys made.0 made.2.set p made.2.key i one.0 one.1.0 one.1.1), (one.2.0, kept_key old.keys new.keys made.0 made.2.set p made.2.key j one.0 one.2.0 one.2.1))
@@ -144,7 +135,6 @@ module _ {Gen K V : Type 0} where
         made.2.absorbed
     change_keeps grows made i j one = subst (λ (s : Surjection Gen K V). AreInOneSet s i j) (sym made.0) one
 
-    -- It puts its pair into one set.
     pub change_pairs : (change : Change Gen) → Makes following old change new → (i j : ℕ × Gen) → HasPair (pairs_of (change ∷ [])) i j → AreInOneSet new i j
     change_pairs (starts_set p) made i j pair = absurd pair
     change_pairs (adds_key p q) made i j (inl same) =
@@ -159,7 +149,6 @@ module _ {Gen K V : Type 0} where
     change_pairs (unites p q) made i j (inr none) = absurd none
     change_pairs grows made i j pair = absurd pair
 
-    -- It puts no other keys into one set.
     pub change_equates : (pairs : List ((ℕ × Gen) × (ℕ × Gen))) (change : Change Gen) → Makes following old change new → ((i j : ℕ × Gen) → HasPair (pairs_of (change ∷ [])) i j → HasPair pairs i j)
         → ((i j : ℕ × Gen) → AreInOneSet old i j → AreEquated pairs i j) → (i j : ℕ × Gen) → AreInOneSet new i j → AreEquated pairs i j
     change_equates pairs (starts_set p) made among old_equates i j one =
@@ -211,7 +200,6 @@ module _ {Gen K V : Type 0} where
         (λ later. history_pairs changes history.1 new history.3 i j later)
         (split_pairs change changes i j pair)
 
-  -- Equated pointers are those of keys in one set, if one of them is that of a key.
   pub equated_together : (s : Surjection Gen K V) (pairs : List ((ℕ × Gen) × (ℕ × Gen))) → ((i j : ℕ × Gen) → HasPair pairs i j → AreInOneSet s i j) → (p q : ℕ × Gen) → AreEquated pairs p q
       → (IsKey s p → AreInOneSet s p q) × (IsKey s q → AreInOneSet s p q)
   equated_together s pairs hold _ _ (itself p) = (λ valid. (valid.value.1, key_in_set s p valid, key_in_set s p valid), λ valid. (valid.value.1, key_in_set s p valid, key_in_set s p valid))

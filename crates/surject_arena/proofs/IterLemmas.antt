@@ -17,7 +17,6 @@ module _ {Gen T : Type 0} where
   abbrev pub pointers : List ((ℕ × Gen) × T) → List (ℕ × Gen)
   pointers es = map (λ e. e.0) es
 
-  -- The first entry at an index or above is not below the first entry.
   not_below : (i j : ℕ) (p : ℕ × Gen) (es : List ((ℕ × Gen) × T)) → AscendsFrom j es → Some p ≡ first_key (entries_at_or_above i es) → j ≤ p.0
   not_below i j p [] ascends first = absurd (cc)
   not_below i j p (e ∷ es) ascends first = by (leb i e.0.0) first (not_below i (suc e.0.0) p es ascends.1)
@@ -26,7 +25,6 @@ module _ {Gen T : Type 0} where
       by true first later = let same : p.0 ≡ e.0.0 = ap (λ (q : ℕ × Gen). q.0) (same_some p e.0 first) in omega (arith, same, ascends.0)
       by false first later = omega (arith, later first, ascends.0)
 
-  -- The entries above it are those behind it.
   first_and_rest : (i j : ℕ) (p : ℕ × Gen) (es : List ((ℕ × Gen) × T)) → AscendsFrom j es → Some p ≡ first_key (entries_at_or_above i es) → pointers (entries_at_or_above i es) ≡ p ∷ pointers (entries_at_or_above (p.0 + 1) es)
   first_and_rest i j p [] ascends first = absurd (cc)
   first_and_rest i j p (e ∷ es) ascends first = by (leb i e.0.0) first (first_and_rest i (suc e.0.0) p es ascends.1)
@@ -53,13 +51,11 @@ module _ {Gen T : Type 0} where
     still_ascending Nowhere after None up is = subst IsAscending (sym is.moves) tt
     still_ascending Nowhere after (Some p) up is = subst IsAscending (sym is.moves) tt
 
-    -- A call yields the first pointer ahead.
     pub yields_first : (cursor after : Cursor) (p : ℕ × Gen) → IsAscending cursor → IsAdvance es cursor (Some p) after → pointers (ahead cursor es) ≡ p ∷ pointers (ahead after es)
     yields_first (Up i) after p up is = first_and_rest i 1 p es ascends is.first ∙ ap (λ (c : Cursor). p ∷ pointers (ahead c es)) (sym is.moves)
     yields_first (Down i) after p up is = absurd up
     yields_first Nowhere after p up is = absurd (let first = is.first in cc)
 
-    -- Nothing is ahead at the end.
     pub yields_none : (cursor after : Cursor) → IsAscending cursor → IsAdvance es cursor None after → (pointers (ahead cursor es) ≡ []) × (pointers (ahead after es) ≡ [])
     yields_none cursor after up is = (none (ahead cursor es) is.first, ap (λ (c : Cursor). pointers (ahead c es)) is.moves)
       where
@@ -70,13 +66,11 @@ module _ {Gen T : Type 0} where
     pub all_ahead : pointers (ahead (Up 1) es) ≡ pointers es
     all_ahead = ap pointers (entries_at_or_above-ascends 1 1 es (omega arith) ascends)
 
-    -- A call by an optional pointer.
     pub yields : {P : Type 0} (key : P → ℕ × Gen) (cursor after : Cursor) (r : Option P) → IsAscending cursor → IsAdvance es cursor (option_map key r) after
         → YieldsFirstBy key (λ rest. rest) (pointers (ahead cursor es)) r (pointers (ahead after es))
     yields key cursor after None up is = yields_none cursor after up is
     yields key cursor after (Some p) up is = yields_first cursor after (key p) up is
 
--- An iterator that yields the first makes progress.
 pub goes_on : {P X : Type 0} (key : P → X) (can : List X → Type 0) → ((l : List X) → can l) → (s : List X) (r : Option P) (t : List X) → YieldsFirstBy key (λ rest. rest) s r t → MakesProgress can (item_count (λ rest. rest)) s r t
 goes_on key can may s None t is = record { on = λ finite. tt; keeps = tt; rests = λ finite. tt }
 goes_on key can may s (Some p) t is = record { on = λ finite. (may t, tt, omega (arith, ap length is)); keeps = may t; rests = λ finite. tt }

@@ -22,11 +22,9 @@ module _ {Gen T : Type 0} (entry : ℕ → Option (Gen × T)) where
   at_free : (i : ℕ) (indexes : List ℕ) → entry i ≡ None → pointers_at entry (i ∷ indexes) ≡ []
   at_free i indexes free = ap (λ (o : Option (Gen × T)). elim o as (λ o. List (ℕ × Gen)) [ None ↦ [] | Some e ↦ (i, e.0) ∷ pointers_at entry indexes ]) free
 
-  -- A step yields the first of the pointers ahead.
   pub pointers_step : (links : LinkMap) (old new : Walker) (p : ℕ × Gen) (t : T) → entry p.0 ≡ Some (p.1, t) → step_of links old ≡ Some (p.0, new) → pointers_at entry (passes_ahead links old) ≡ p ∷ pointers_at entry (passes_ahead links new)
   pointers_step links old new p t stored step = ap (pointers_at entry) (step_ahead links old new p.0 step) ∙ at_stored p.0 (passes_ahead links new) (p.1, t) stored
 
-  -- Without a next entry no pointers are ahead.
   pub pointers_end : (indexes : List ℕ) → ((i : ℕ) (rest : List ℕ) → indexes ≡ i ∷ rest → entry i ≡ None) → pointers_at entry indexes ≡ []
   pointers_end [] none = refl
   pointers_end (i ∷ indexes) none = at_free i indexes (none i indexes refl)

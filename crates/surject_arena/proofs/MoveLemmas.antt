@@ -32,7 +32,6 @@ module _ {Gen X : Type 0} where
       let next : n + 1 ≡ suc n = omega arith in
       (parts.0, numbered (suc n) m es (parts.1 ∙ ap (λ (k : ℕ). range_with_len k m) next))
 
-  -- An entry that is found is at an index that is not below the first.
   found_above : (j i : ℕ) (e : Gen × X) (es : List ((ℕ × Gen) × X)) → AscendsFrom j es → found i es ≡ Some e → j ≤ i
   found_above j i e [] ascends at = absurd (none_some e (found i []) refl at)
   found_above j i e (a ∷ es) ascends at = by (cases_eq a.0.0 i) (found_above (suc a.0.0) i e es ascends.1)
@@ -41,7 +40,6 @@ module _ {Gen X : Type 0} where
       by (inl same) later = omega (arith, same, ascends.0)
       by (inr other) later = omega (arith, later (sym (past_first a i es other) ∙ at), ascends.0)
 
-  -- A fact of all entries, at one that is found.
   pub all_found : (P : (ℕ × Gen) × X → Type 0) (i : ℕ) (e : Gen × X) (es : List ((ℕ × Gen) × X)) → All P es → found i es ≡ Some e → P ((i, e.0), e.1)
   all_found P i e [] holds at = absurd (none_some e (found i []) refl at)
   all_found P i e (a ∷ es) holds at = by (cases_eq a.0.0 i) (all_found P i e es (All-tail P a es holds))
@@ -123,21 +121,18 @@ module _ {Gen X : Type 0} where
               related = later.related;
             }
 
-  -- Matched values, with the generation of all new entries.
   pub with_generation : (S : X → X → Type 0) (g : Gen) (es fs : List ((ℕ × Gen) × X)) → AreMatched (λ e f. S e.1 f.1) es fs → All (λ f. f.0.1 ≡ g) fs → AreRelated (λ e f. (f.0 ≡ g) × S e.1 f.1) es fs
   with_generation S g [] [] are all = tt
   with_generation S g [] (b ∷ fs) are all = absurd are
   with_generation S g (a ∷ es) [] are all = absurd are
   with_generation S g (a ∷ es) (b ∷ fs) are all = ((All-head (λ f. f.0.1 ≡ g) b fs all, are.0), with_generation S g es fs are.1 (All-tail (λ f. f.0.1 ≡ g) b fs all))
 
-  -- The same values are matched.
   pub same_values : (es fs : List ((ℕ × Gen) × X)) → values_in fs ≡ values_in es → AreMatched (λ e f. f.1 ≡ e.1) es fs
   same_values [] [] same = tt
   same_values [] (b ∷ fs) same = absurd (let h = same in cc)
   same_values (a ∷ es) [] same = absurd (let h = same in cc)
   same_values (a ∷ es) (b ∷ fs) same = (let h = same in cc, same_values es fs (let h = same in cc))
 
-  -- The generation of all entries is that of the first one.
   pub first_generation : (g : Gen) (p : ℕ × Gen) (es : List ((ℕ × Gen) × X)) → All (λ e. e.0.1 ≡ g) es → Some p ≡ first_key es → All (λ e. e.0.1 ≡ p.1) es
   first_generation g p [] all first = absurd (let h = first in cc)
   first_generation g p (e ∷ es) all first =
@@ -153,7 +148,6 @@ module _ {Gen X Y : Type 0} (f : X → Y) where
   values_each [] = refl
   values_each (e ∷ es) = ap (λ l. f e.1 ∷ l) (values_each es)
 
-  -- A compression of mapped views.
   pub compressed-each : (first : Gen) (following : Gen → Gen) (reset : Bool) (old new : ArenaView Gen X) → IsCompressed first following reset old new → IsCompressed first following reset (map_view f old) (map_view f new)
   compressed-each first following reset old new is = record {
     indexes = index-each f new.entries ∙ (is.indexes ∙ ap (λ (n : ℕ). range_with_len 1 n) (sym (count-each f old)));

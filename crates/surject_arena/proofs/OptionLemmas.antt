@@ -9,7 +9,6 @@ same_some a b is = cc
 pub none_some : {X : Type 0} (a : X) (o : Option X) → o ≡ None → o ≡ Some a → ⊥
 none_some a o none some = let both = sym none ∙ some in cc
 
--- What was mapped to a value is there.
 pub from_mapped : {X Y : Type 0} (f : X → Y) (o : Option X) (y : Y) → option_map f o ≡ Some y → (x : X) × (o ≡ Some x) × (f x ≡ y)
 from_mapped f None y is = absurd (cc)
 from_mapped f (Some x) y is = (x, refl, same_some (f x) y is)
@@ -18,17 +17,14 @@ pub mapped_twice : {X Y Z : Type 0} (f : X → Y) (g : Y → Z) (o : Option X) �
 mapped_twice f g None = refl
 mapped_twice f g (Some x) = refl
 
--- A fact of what was returned implies another, since something was.
 pub if_some_to : {R V : Type 0} {X Z : R → Type 0} (o : Option R) → (is_some o ≡ true → V) → IfSome o X → (V → (r : R) → X r → Z r) → IfSome o Z
 if_some_to None valid holds so = tt
 if_some_to (Some r) valid holds so = so (valid refl) r holds
 
--- An option that is some holds a value.
 pub is_there : {X : Type 0} (o : Option X) → is_some o ≡ true → (x : X) × (o ≡ Some x)
 is_there None some = absurd (cc)
 is_there (Some x) some = (x, refl)
 
--- What holds of a value implies another fact of it, if there is one.
 pub if_ok_to : {V E : Type 0} {X Z : V → Type 0} (r : Result V E) → IfOk r X → ((v : V) → X v → Z v) → IfOk r Z
 if_ok_to (Ok v) holds so = so v holds
 if_ok_to (Err e) holds so = tt

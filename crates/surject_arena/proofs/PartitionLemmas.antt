@@ -20,7 +20,6 @@ module _ {Gen : Type 0} where
   pub name_is : (u w : ℕ × Gen) → u.0 ≡ w.0 → u.1 ≡ w.1 → u ≡ w
   name_is u w index generation = subst (λ (i : ℕ). u ≡ (i, w.1)) index (subst (λ (g : Gen). u ≡ (u.0, g)) generation refl)
 
-  -- The index of a name determines the name and the size of its set.
   pub same_size : (size : ℕ → Option (Gen × ℕ)) (u w : ℕ × Gen) (m n : ℕ) → u.0 ≡ w.0 → size u.0 ≡ Some (u.1, m) → size w.0 ≡ Some (w.1, n) → (u ≡ w) × (m ≡ n)
   same_size size u w m n same at_u at_w =
       let pair : (u.1, m) ≡ (w.1, n) = same_some (u.1, m) (w.1, n) (sym at_u ∙ (ap size same ∙ at_w)) in
@@ -78,11 +77,9 @@ module _ {Gen : Type 0} (set after : ℕ → Option (ℕ × Gen)) (links changed
           by (inr not_v) (inl same) = absurd (none_some (u.1, n) (resized w.0) (keeps.dropped (λ both. not_v (same ∙ sym both))) (ap resized (sym same) ∙ at))
           by (inr not_v) (inr not_w) = other u n not_v not_w (is.sets u n (sym (keeps.sizes u.0 not_v not_w) ∙ at))
 
-  -- A key of another set is in another list.
   apart : (u w : ℕ × Gen) (n i : ℕ) (s : IsSet set links u n) → u.0 ≢ w.0 → set i ≡ Some w → IsMember s.items i → ⊥
   apart u w n i s other own has = other (ap (λ (x : ℕ × Gen). x.0) (same_some u w (sym ((s.members i).0 has) ∙ own)))
 
-  -- A key at a free index is not in a set.
   outside : (u : ℕ × Gen) (n i : ℕ) (s : IsSet set links u n) → set i ≡ None → IsMember s.items i → ⊥
   outside u n i s free has = none_some u (set i) free ((s.members i).0 has)
 
@@ -98,7 +95,6 @@ module _ {Gen : Type 0} (set after : ℕ → Option (ℕ × Gen)) (links changed
         by (inl same) = inl (same_some u w (sym own ∙ (ap after same ∙ at)))
         by (inr other) = let old = sym (rest i other) ∙ own in ⊎_elim (λ same. inl same) (λ differs. inr (old, differs, differs)) (known i u old)
 
-    -- It is alone in a new set.
     pub alone_added : Inserts links changed p (Some p) (Some p) → size w.0 ≡ None → resized w.0 ≡ Some (w.1, 1) → IsPartition after changed resized
     alone_added inserts unused there = changed_partition w w (record {
       members = joined_members (λ i u own. inr (differs i u own));
@@ -117,7 +113,6 @@ module _ {Gen : Type 0} (set after : ℕ → Option (ℕ × Gen)) (links changed
           λ own. ⊎_elim (λ same. inl (sym same)) (λ other. absurd (differs i w (sym (rest i other) ∙ own) refl)) (cases_eq i p),
         )
 
-    -- It is beside a key of the set.
     pub beside_added : (q n : ℕ) → IsWellLinked links → links p ≡ None → set q ≡ Some w → Inserts links changed p (Some q) (next_of links q) → size w.0 ≡ Some (w.1, n) → resized w.0 ≡ Some (w.1, n + 1) → IsPartition after changed resized
     beside_added q n agrees unlinked own_q inserts was there = changed_partition w w (record {
       members = joined_members named;
@@ -164,7 +159,6 @@ module _ {Gen : Type 0} (set after : ℕ → Option (ℕ × Gen)) (links changed
       dropped = λ differ. absurd (differ refl);
     }
 
-    -- A list with at most one item has no two.
     only_one : (xs : List ℕ) (a b : ℕ) → length xs ≤ 1 → IsMember xs a → IsMember xs b → b ≡ a
     only_one [] a b few has_a has_b = absurd has_a
     only_one (x ∷ []) a b few (inl is_a) (inl is_b) = sym is_b ∙ is_a

@@ -28,7 +28,6 @@ pub indexes_of : {Gen X : Type 0} (es : List ((ℕ × Gen) × X)) → indexes (m
 indexes_of [] = refl
 indexes_of (e ∷ es) = ap (λ l. e.0.0 ∷ l) (indexes_of es)
 
--- An index is within a list, or past its end.
 within_end : (xs : List ℕ) (i : ℕ) → (i < length xs) ⊎ (length xs ≤ i)
 within_end [] i = inr (omega arith)
 within_end (x ∷ xs) zero = inl (omega arith)
@@ -53,7 +52,6 @@ module _ (all ahead rest places : List ℕ) (n i : ℕ) (are : ArePlaced all ahe
   rises : Rise (length places) (i ∷ rest)
   rises = subst (Rise (length places)) first are.above
 
-  -- One more index is within the number of indexes.
   pub count_below : n < length all
   count_below = omega (arith, are.count, ap length are.parts, length-append are.passed ahead, ap length first)
 
@@ -92,6 +90,5 @@ module _ (all ahead rest places : List ℕ) (n i : ℕ) (are : ArePlaced all ahe
               inside (inl low) was positive = low
               inside (inr high) was positive = absurd (omega (arith, was, positive, get_or_past places j 0 high))
 
--- Nothing is ahead.
 pub all_placed : (all ahead places : List ℕ) (n : ℕ) → ArePlaced all ahead places n → ahead ≡ [] → HasPlaces all places
 all_placed all ahead places n are none = subst (λ (l : List ℕ). HasPlaces l places) (sym (append-nil are.passed) ∙ (ap (λ (l : List ℕ). are.passed ++ l) (sym none) ∙ are.parts)) are.placed

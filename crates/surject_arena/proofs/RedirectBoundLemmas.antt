@@ -15,7 +15,6 @@ use Rattle.surject_arena.proofs.OptionLemmas.{same_some, none_some}
 use Rattle.surject_arena.proofs.EntrySumLemmas.{AreOnce, total_weight, weight-added, weight-written, weight-without, weight_within, once-written, once-without}
 use Rattle.surject_arena.proofs.HistoryLemmas.{same_name}
 
--- How many times n, if it is not 0, can double and stay within 2 ^ d.
 abbrev doublings : ℕ → ℕ → ℕ
 doublings zero n = 0
 doublings (suc d) n = doublings d n + min 1 (suc (2 ^ d) - n)
@@ -28,7 +27,6 @@ doublings-falls : (d a b : ℕ) → a ≤ b → doublings d b ≤ doublings d a
 doublings-falls zero a b small = omega arith
 doublings-falls (suc d) a b small = omega (arith, small, doublings-falls d a b small)
 
--- A number at least twice as large can double once less.
 doublings-drops : (d a n : ℕ) → 1 ≤ a → a + a ≤ n → n ≤ 2 ^ d → doublings d n + 1 ≤ doublings d a
 doublings-drops zero a n some double small = absurd (omega (arith, some, double, small))
 doublings-drops (suc d) a n some double small = ⊎_elim
@@ -36,7 +34,6 @@ doublings-drops (suc d) a n some double small = ⊎_elim
     (λ below. omega (arith, double, below, doublings-drops d a n some double below))
     (cases_lt (2 ^ d) n)
 
--- An upper bound of the redirections that n keys of one set can still take.
 abbrev cost : ℕ → ℕ → ℕ
 cost d n = n * doublings d n
 
@@ -46,8 +43,6 @@ cost_one d = omega (arith, doublings-bound d 1)
 cost_more : (d n : ℕ) → cost d (n + 1) ≤ cost d n + d
 cost_more d n = omega (arith, add-mul n 1 (doublings d (n + 1)), doublings-bound d (n + 1), mul-le-mul_left n (doublings-falls d n (n + 1) (omega arith)))
 
--- The keys of the smaller set can double once less, and the others no more than before. So the cost
--- falls by the redirections of the union.
 cost_merged : (d a b : ℕ) → 1 ≤ a → a ≤ b → b + a ≤ 2 ^ d → a + cost d (b + a) ≤ cost d b + cost d a
 cost_merged d a b some smaller small =
     let falls = doublings-falls d b (b + a) (omega arith) in
@@ -59,7 +54,6 @@ some_member [] i in_items = absurd in_items
 some_member (m ∷ items) i in_items = omega arith
 
 module _ {Gen K V : Type 0} where
-  -- The number of keys that the values count, and the cost of all sets together.
   abbrev counted_in : Surjection Gen K V → ℕ
   counted_in s = total_weight (λ t. t.1) s.values.entries
 
@@ -74,7 +68,6 @@ module _ {Gen K V : Type 0} where
     pub cost : new.redirected + cost_of d new ≤ old.redirected + cost_of d old + n * d
 
   module _ (d : ℕ) (following : Gen → Gen) (old new : Surjection Gen K V) (is : IsSurjection old) (once : AreOnce old.values.entries) where
-    -- A set with a value has a key.
     not_empty : (w : ℕ × Gen) (t : V) (n : ℕ) → HasValue old w t n → 1 ≤ n
     not_empty w t n has =
         let keys = is.counted w t n has in
@@ -161,7 +154,6 @@ module _ {Gen K V : Type 0} where
     }
 
   module _ (d : ℕ) (following : Gen → Gen) where
-    -- The bound for one change and the bound for those after it give the bound for both.
     paid_before : (old mid new : Surjection Gen K V) (n m both : ℕ) → both ≡ n + m → both + counted_in old ≤ 2 ^ d → IsPaid d old mid n
         → (AreOnce mid.values.entries → m + counted_in mid ≤ 2 ^ d → new.redirected ≤ mid.redirected + cost_of d mid + m * d) → new.redirected ≤ old.redirected + cost_of d old + both * d
     paid_before old mid new n m both sum few paid rest =
@@ -180,7 +172,6 @@ module _ {Gen K V : Type 0} where
     history_is_paid (grows ∷ changes) old new once few history =
         paid_before old history.1 new 0 (insertion_count changes) (insertion_count changes) (omega arith) few (growth_is_paid d following old history.1 history.0 once history.2) (λ still more. history_is_paid changes history.1 new still more history.3)
 
-  -- Without keys there are no values.
   no_values : (s : Surjection Gen K V) → IsSurjection s → s.keys.entries ≡ [] → s.values.entries ≡ []
   no_values s is empty = by s.values.entries refl
     where

@@ -16,12 +16,10 @@ use Rattle.surject_arena.specs.declared.members.Member.{Member}
 use Rattle.surject_arena.proofs.OptionLemmas.{from_mapped, mapped_twice}
 use Rattle.surject_arena.proofs.ViewLemmas.{with_entries}
 
--- The indexes of entries are those of their keys.
 indexes_of_keys : {Gen T : Type 0} (es : List ((ℕ × Gen) × T)) → map index_of es ≡ map (λ k. k.0) (map (λ e. e.0) es)
 indexes_of_keys [] = refl
 indexes_of_keys (e ∷ es) = ap (λ l. e.0.0 ∷ l) (indexes_of_keys es)
 
--- A closure that puts a key into the set of `w` redirects a chain.
 pub redirection : {A P Gen K F : Type 0} {view : A → ArenaView Gen (Member P K)} {entry : A → ℕ → Option (Gen × Member P K)} (state : (a : A) → ArenaState (view a) (entry a)) (links : A → LinkMap)
     (g : Mut F (P × (MutBor (Member P K) × Unit {0})) (Unit {0} × (MutBor (Member P K) × Unit {0}))) (key : P → ℕ × Gen) (w : P) (f : F)
     → ((v : LinkVisit P (Member P K)) (next : F) → IsLinkVisit g f v next → (v.left ≡ member v.value.key w) × (next ≡ f))
@@ -45,7 +43,6 @@ redirection {view = view} {entry = entry} state links g key w f each old q (Some
 }
 
 module _ {P Gen K : Type 0} where
-  -- A member in the set of `w`, and its key.
   abbrev moved_to : P → Gen × Member P K → Gen × Member P K
   moved_to w e = (e.0, member e.1.key w)
 
@@ -75,7 +72,6 @@ module _ {P Gen K : Type 0} (key : P → ℕ × Gen) (ke kf : ℕ → Option (Ge
       (λ has_not. ap (option_map key_in) (redirected.rest i has_not))
       (IsMember-or_not redirected.items i)
 
-  -- A valid pointer is still valid.
   pub still_valid : (p : ℕ × Gen) → IsValid ke p → IsValid kf p
   still_valid p valid = ⊎_elim
       (λ has. record { value = member valid.value.key v; stored = redirected.there p.0 has ∙ ap (option_map (λ (x : Gen × Member P K). let y : Gen × Member P K = (x.0, member x.1.key v) in y)) valid.stored })

@@ -14,7 +14,6 @@ use Rattle.surject_arena.proofs.OptionLemmas.{none_some}
 use Rattle.surject_arena.proofs.PartitionLemmas.{alone_added, beside_added, one_taken, last_taken}
 use Rattle.surject_arena.proofs.SetReadLemmas.{set_stored, size_stored}
 
--- The same sets, links and sizes.
 pub same_partition : {Gen : Type 0} (set after : ℕ → Option (ℕ × Gen)) (links changed : LinkMap) (size resized : ℕ → Option (Gen × ℕ)) → IsPartition set links size
     → ((i : ℕ) → after i ≡ set i) → changed ≡ links → ((j : ℕ) → resized j ≡ size j) → IsPartition after changed resized
 same_partition set after links changed size resized is sets same sizes = record {
@@ -29,7 +28,6 @@ same_partition set after links changed size resized is sets same sizes = record 
       };
 }
 
--- Arenas with the same entries in their views have the same at each index.
 pub same_entries : {A Gen T : Type 0} {view : A → ArenaView Gen T} {entry : A → ℕ → Option (Gen × T)} (state : (a : A) → ArenaState (view a) (entry a)) (a b : A) → (view b).entries ≡ (view a).entries
     → (i : ℕ) → entry b i ≡ entry a i
 same_entries state a b same i = sym ((state b).finds i) ∙ (ap (found i) same ∙ (state a).finds i)
@@ -53,7 +51,6 @@ module _ {P Gen K V : Type 0} (key : P → ℕ × Gen) (ke kf : ℕ → Option (
   set_same : (i : ℕ) → kf i ≡ ke i → set_in key kf i ≡ set_in key ke i
   set_same i same = ap (option_map (λ e. key e.1.set)) same
 
-  -- A key comes into a set of its own.
   pub with_set : (p : ℕ × Gen) (k : K) (t : V) (w : P) → IsInserted ke kf p (member k w) → Inserts links changed p.0 (Some p.0) (Some p.0) → IsInserted ve vf (key w) (counted t 1)
       → IsPartition (set_in key kf) changed (size_in vf)
   with_set p k t w gained inserts valued = alone_added (set_in key ke) (set_in key kf) links changed (size_in ve) (size_in vf) is p.0 (key w)
@@ -61,7 +58,6 @@ module _ {P Gen K V : Type 0} (key : P → ℕ × Gen) (ke kf : ℕ → Option (
       (λ j other. ap (option_map (λ e. (e.0, e.1.size))) (valued.rest j other)) inserts
       (ap (option_map (λ e. (e.0, e.1.size))) valued.free) (size_stored vf (key w).0 (key w).1 t 1 valued.stored)
 
-  -- A key q comes into the set of the key at p.
   pub with_key : (p : ℕ) (q : ℕ × Gen) (k : K) (w : P) (n : ℕ) → set_in key ke p ≡ Some (key w) → IsWellLinked links → links q.0 ≡ None → IsInserted ke kf q (member k w)
       → Inserts links changed q.0 (Some p) (next_of links p) → size_in ve (key w).0 ≡ Some ((key w).1, n) → size_in vf (key w).0 ≡ Some ((key w).1, n + 1)
       → ((j : ℕ) → j ≢ (key w).0 → size_in vf j ≡ size_in ve j) → IsPartition (set_in key kf) changed (size_in vf)
@@ -80,7 +76,6 @@ module _ {P Gen K V : Type 0} (key : P → ℕ × Gen) (ke kf : ℕ → Option (
     without_last few none = last_taken (set_in key ke) (set_in key kf) links changed (size_in ve) (size_in vf) is p.0 (key m.set) n
         (set_stored key ke p.0 p.1 m stored) (ap (option_map (λ e. key e.1.set)) gone) (λ i other. set_same i (rest i other)) removes was others few none
 
--- Arenas without entries have no sets.
 pub no_sets : {P Gen K V : Type 0} (key : P → ℕ × Gen) (ke : ℕ → Option (Gen × Member P K)) (ve : ℕ → Option (Gen × Counted V)) (links : LinkMap) → ((i : ℕ) → ke i ≡ None) → ((j : ℕ) → ve j ≡ None) → IsPartition (set_in key ke) links (size_in ve)
 no_sets key ke ve links no_key no_value = record {
   valued = λ i w own. absurd (none_some w (set_in key ke i) (ap (option_map (λ e. key e.1.set)) (no_key i)) own);

@@ -19,11 +19,9 @@ use Rattle.surject_arena.proofs.PartitionLemmas.{set_fits, sets_fit}
 use Rattle.surject_arena.proofs.ViewLemmas.{entry-each, stored-each, each-stored}
 
 module _ {P Gen K : Type 0} (key : P → ℕ × Gen) (ke : ℕ → Option (Gen × Member P K)) where
-  -- The set of a stored member.
   pub set_stored : (i : ℕ) (g : Gen) (m : Member P K) → ke i ≡ Some (g, m) → set_in key ke i ≡ Some (key m.set)
   set_stored i g m stored = ap (option_map (λ e. key e.1.set)) stored
 
-  -- A key in a set is stored.
   pub stored_in_set : (i : ℕ) (w : ℕ × Gen) → set_in key ke i ≡ Some w → is_some (ke i) ≡ true
   stored_in_set i w at = let e = from_mapped (λ (x : Gen × Member P K). key x.1.set) (ke i) w at in ap is_some e.1
 
@@ -31,7 +29,6 @@ module _ {Gen V : Type 0} (ve : ℕ → Option (Gen × Counted V)) where
   pub size_stored : (j : ℕ) (g : Gen) (t : V) (n : ℕ) → ve j ≡ Some (g, counted t n) → size_in ve j ≡ Some (g, n)
   size_stored j g t n stored = ap (option_map (λ e. (e.0, e.1.size))) stored
 
-  -- A known size is that of a value.
   pub value_sized : (w : ℕ × Gen) (n : ℕ) → size_in ve w.0 ≡ Some (w.1, n) → (t : V) × (ve w.0 ≡ Some (w.1, counted t n))
   value_sized w n at =
       let e = from_mapped (λ (x : Gen × Counted V). let y : Gen × ℕ = (x.0, x.1.size) in y) (ve w.0) (w.1, n) at in
@@ -49,7 +46,6 @@ module _ {A B P Gen K V : Type 0} (key : P → ℕ × Gen) {kview : A → ArenaV
   pub key_seen : (i : ℕ) → key_at seen i ≡ option_map (λ e. (e.0, e.1.key)) (kentry a i)
   key_seen i = ap (option_map (λ e. (e.0, e.1.0))) (entry-each (member_view key) kstate a i) ∙ mapped_twice (on_value (member_view key)) (λ e. (e.0, e.1.0)) (kentry a i)
 
-  -- A pointer of a key of a set, by its member.
   pub key_of : (p w : ℕ × Gen) → IsValid (kentry a) p → set_in key (kentry a) p.0 ≡ Some w → IsKeyOf seen w p
   key_of p w valid at =
       let same = same_some (key valid.value.set) w (sym (set_stored key (kentry a) p.0 p.1 valid.value valid.stored) ∙ at) in
@@ -69,14 +65,12 @@ module _ {A B P Gen K V : Type 0} (key : P → ℕ × Gen) {kview : A → ArenaV
       e.1 ∙ ap (λ (x : V × ℕ). Some (w.1, counted x.0 x.1)) e.2
 
   module _ (links : LinkMap) (is : IsPartition (set_in key (kentry a)) links (size_in (ventry b))) where
-    -- The value of a key's set.
     pub valued : (i : ℕ) (w : ℕ × Gen) → set_in key (kentry a) i ≡ Some w → (t : V) × (n : ℕ) × (ventry b w.0 ≡ Some (w.1, counted t n))
     valued i w at =
         let known = is.valued i w at in
         let t = value_sized (ventry b) w known.0 known.1 in
         (t.0, known.0, t.1)
 
-    -- What is read as a size is one.
     pub size_read : (i : ℕ) (w : ℕ × Gen) (m : ℕ) → set_in key (kentry a) i ≡ Some w → ((n : ℕ) → size_in (ventry b) w.0 ≡ Some (w.1, n) → m ≡ n) → (t : V) × (ventry b w.0 ≡ Some (w.1, counted t m))
     size_read i w m at reads =
         let known = is.valued i w at in
@@ -102,7 +96,6 @@ module _ {A B P Gen K V : Type 0} (key : P → ℕ × Gen) {kview : A → ArenaV
     listed : (i : ℕ) (u : ℕ × Gen) → set_in key (kentry a) i ≡ Some u → IsMember (map index_of (kview a).entries) i
     listed i u at = found_has i (kview a).entries (ap is_some ((kstate a).finds i) ∙ stored_in_set key (kentry a) i u at)
 
-    -- A set has at most as many keys as there are, and so have two sets.
     pub size_fits : (w : ℕ × Gen) (t : V) (n : ℕ) → ventry b w.0 ≡ Some (w.1, counted t n) → n ≤ count (kview a)
     size_fits w t n stored =
         let few = set_fits (set_in key (kentry a)) links (map index_of (kview a).entries) listed w n (is.sets w n (size_stored (ventry b) w.0 w.1 t n stored)) in
@@ -113,7 +106,6 @@ module _ {A B P Gen K V : Type 0} (key : P → ℕ × Gen) {kview : A → ArenaV
         let few = sets_fit (set_in key (kentry a)) links (map index_of (kview a).entries) listed v w n m (is.sets v n (size_stored (ventry b) v.0 v.1 t n at_v)) (is.sets w m (size_stored (ventry b) w.0 w.1 u m at_w)) differ in
         omega (arith, few, length-map (kview a).entries index_of)
 
-    -- A key has a key after it.
     pub has_next : (i : ℕ) (w : ℕ × Gen) → set_in key (kentry a) i ≡ Some w → is_some (next_of links i) ≡ true
     has_next i w at =
         let known = is.valued i w at in

@@ -18,7 +18,6 @@ use Rattle.surject_arena.specs.SetRemovals.{view_after_removals, counter_after, 
 use Rattle.surject_arena.proofs.EntrySumLemmas.{length-without}
 use Rattle.surject_arena.proofs.OptionLemmas.{same_some, none_some}
 
--- A removal removes what was written before.
 without-written : {Gen X : Type 0} (i : ℕ) (t : X) (es : List ((ℕ × Gen) × X)) → without_index i (with_replacement i (valued t) es) ≡ without_index i es
 without-written i t [] = refl
 without-written {Gen} {X} i t (e ∷ es) = ⊎_elim
@@ -36,7 +35,6 @@ removed-written : {Gen X : Type 0} (following : Gen → Gen) (s : ArenaView Gen 
 removed-written following s i t = ap (λ es. record (view_after_removal following s i) { entries = es }) (without-written i t s.entries)
 
 module _ {Gen : Type 0} (wraps : Gen → Bool) (following : Gen → Gen) where
-  -- The counter after removals.
   counter_removed : {X : Type 0} (s : ArenaView Gen X) (indexes : List ℕ) → (view_after_removals following s indexes).counter ≡ option_map (counter_after following (length indexes)) s.counter
   counter_removed s [] = same s.counter
     where
@@ -58,7 +56,6 @@ module _ {Gen : Type 0} (wraps : Gen → Bool) (following : Gen → Gen) where
   one_more_wraps None n wrapped overflow before now = tt
   one_more_wraps (Some g) n wrapped overflow before now = ap (λ b. b || wraps (counter_after following n g)) before ∙ ap (λ b. wrapped || b) now
 
-  -- A result with an overflow is reported.
   pub reports_flag : {X : Type 0} (counter : Option Gen) (invalid : Type 0) (done : X → Type 0) (b : Bool) (x : X) → IfSome counter (λ g. wraps g ≡ b) → done x → ReportsOverflow wraps counter invalid done (invalidation_result b (Some x))
   reports_flag counter invalid done true x flag is = (flag, is)
   reports_flag counter invalid done false x flag is = (flag, is)
@@ -67,7 +64,6 @@ module _ {Gen K V : Type 0} (s : Surjection Gen K V) where
   set_of_key : (p w : ℕ × Gen) → IsKeyOf s w p → set_at s p.0 ≡ Some w
   set_of_key p w is = ap (option_map (λ e. e.1.1)) is.1
 
-  -- A key is in one set, and a set has one value.
   one_set : (p v w : ℕ × Gen) → IsKeyOf s v p → IsKeyOf s w p → v ≡ w
   one_set p v w first second = same_some v w (sym (set_of_key p v first) ∙ set_of_key p w second)
 
@@ -77,7 +73,6 @@ module _ {Gen K V : Type 0} (s : Surjection Gen K V) where
       let pair : (w.1, (t, n)) ≡ (w.1, (u, m)) = same_some (w.1, (t, n)) (w.1, (u, m)) (sym at_w ∙ second) in
       (ap (λ (x : Gen × (V × ℕ)). x.1.0) pair, ap (λ (x : Gen × (V × ℕ)). x.1.1) pair)
 
--- A removal of a key that is there takes it.
 pub taken_of : {Gen K V : Type 0} (wraps : Gen → Bool) (following : Gen → Gen) (mid new : Surjection Gen K V) (q : ℕ × Gen) (result : InvalidationResult (K × Option V))
     → ReportsOverflow wraps mid.keys.counter (IsKey mid q → ⊥) (λ e. IsKeyTaken mid new following q e.0 e.1) result → IsKey mid q
     → (e : K × Option V) × (value_within result ≡ Some e) × IsKeyTaken mid new following q e.0 e.1 × IfSome mid.keys.counter (λ g. wraps g ≡ is_overflow_result result)
@@ -86,7 +81,6 @@ taken_of wraps following mid new q (GenerationOverflow e) is valid = (e, refl, i
 taken_of wraps following mid new q InvalidPtr is valid = absurd (is valid)
 
 module _ {Gen K V : Type 0} (wraps : Gen → Bool) (following : Gen → Gen) (old : Surjection Gen K V) (p : ℕ × Gen) where
-  -- No key is removed yet.
   pub none_removed : IsKey old p → IsSurjection old → IsSetReduced old old wraps following p false
   none_removed valid sound =
       let w = valid.value.1 in
@@ -180,7 +174,6 @@ module _ {Gen K V : Type 0} (wraps : Gen → Bool) (following : Gen → Gen) (ol
           overflow = flag_now overflow flag;
         }
 
-  -- A key beside p is removed, which leaves fewer.
   pub key_beside_removed : (mid new : Surjection Gen K V) (wrapped : Bool) → IsSetReduced old mid wraps following p wrapped → AscendsFrom 1 mid.keys.entries → (q : ℕ × Gen) → AreInOneSet mid p q × SharesSet mid p × (q.0 ≢ p.0)
       → (result : InvalidationResult (K × Option V)) → ReportsOverflow wraps mid.keys.counter (IsKey mid q → ⊥) (λ e. IsKeyTaken mid new following q e.0 e.1) result
       → (count new.keys < count mid.keys) × IsSetReduced old new wraps following p (wrapped || is_overflow_result result)

@@ -27,7 +27,6 @@ use Rattle.surject_arena.proofs.SetReadLemmas.{seen, set_stored, of_key, has_val
 use Rattle.surject_arena.proofs.SetChangeLemmas.{same_entries, value_written, sizes_elsewhere}
 use Rattle.surject_arena.proofs.UnionLemmas.{exchange_made}
 
--- A list with items has a last one.
 ends_in : (xs : List ℕ) → xs ≢ [] → (front : List ℕ) × (last : ℕ) × (xs ≡ front ++ last ∷ [])
 ends_in [] filled = absurd (filled refl)
 ends_in (x ∷ []) filled = ([], x, refl)
@@ -65,7 +64,6 @@ module _ {Gen : Type 0} (set : ℕ → Option (ℕ × Gen)) (links : LinkMap) (s
   whole : IsSet set links w n
   whole = is.sets w n was
 
-  -- Its cyclic chain from p on, with the last key, which is before p.
   pub ring : (front : List ℕ) × (last : ℕ) × IsChain links (cyclic (p ∷ front ++ last ∷ []))
   ring =
       let turned = rotated_to links whole.items p whole.chain ((whole.members p).1 own) in
@@ -86,7 +84,6 @@ module _ {Gen : Type 0} (set : ℕ → Option (ℕ × Gen)) (links : LinkMap) (s
     parts : IsChain changed (cyclic (p ∷ [])) × IsChain changed (cyclic (last ∷ front))
     parts = exchanges.one_cyclic front [] chain
 
-    -- No key had the set v.
     unnamed : (i : ℕ) (u : ℕ × Gen) → set i ≡ Some u → u.0 ≢ v.0
     unnamed i u at_i same = let known = is.valued i u at_i in none_some (u.1, known.0) (size v.0) unused (ap size (sym same) ∙ known.1)
 
@@ -132,7 +129,6 @@ module _ {Gen : Type 0} (set : ℕ → Option (ℕ × Gen)) (links : LinkMap) (s
           );
         }
 
-    -- The value of a key's set.
     sized : (u : ℕ × Gen) (m : ℕ) → size u.0 ≡ Some (u.1, m) → u.0 ≢ v.0 → (k : ℕ) × (resized u.0 ≡ Some (u.1, k))
     sized u m known not_v = ⊎_elim
         (λ same. subst (λ (y : ℕ × Gen). (k : ℕ) × (resized y.0 ≡ Some (y.1, k))) (sym (same_size size u w m n same known was).0) (n - 1, fewer))

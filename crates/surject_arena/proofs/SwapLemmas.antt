@@ -12,7 +12,6 @@ use Rattle.surject_arena.proofs.OptionLemmas.{same_some}
 use Rattle.surject_arena.proofs.ViewLemmas.{with_entries, written-each}
 
 module _ {Gen T : Type 0} where
-  -- The second of two writes at an index counts.
   pub written_again : (i : ℕ) (x y : T) (es : List ((ℕ × Gen) × T)) → with_replacement i (valued y) (with_replacement i (valued x) es) ≡ with_replacement i (valued y) es
   written_again i x y [] = refl
   written_again i x y (e ∷ es) = ⊎_elim
@@ -20,7 +19,6 @@ module _ {Gen T : Type 0} where
       (λ other. ap (with_replacement i (valued y)) (writes_later i x e es other) ∙ (writes_later i y e (with_replacement i (valued x) es) other ∙ (ap (λ rest. e ∷ rest) (written_again i x y es) ∙ sym (writes_later i y e es other))))
       (cases_eq e.0.0 i)
 
-  -- Writes at two indexes can be done in any order.
   pub written_apart : (i j : ℕ) (x y : T) (es : List ((ℕ × Gen) × T)) → i ≢ j
       → with_replacement j (valued y) (with_replacement i (valued x) es) ≡ with_replacement i (valued x) (with_replacement j (valued y) es)
   written_apart i j x y [] apart = refl
@@ -38,7 +36,6 @@ module _ {Gen T : Type 0} where
       (cases_eq e.0.0 j))
       (cases_eq e.0.0 i)
 
-  -- Of two writes at each of two indexes, the second ones count.
   pub written_four : (s : ArenaView Gen T) (i j : ℕ) (a b c d : T) → i ≢ j → view_with_value (view_with_value (view_with_value (view_with_value s i a) j b) i c) j d ≡ view_with_value (view_with_value s i c) j d
   written_four s i j a b c d apart = ap (with_entries s) (
       ap (with_replacement j (valued d)) (sym (written_apart i j c b (with_replacement i (valued a) s.entries) apart) ∙ ap (with_replacement j (valued b)) (written_again i a c s.entries))
@@ -76,7 +73,6 @@ module _ {B Gen V : Type 0} {view : B → ArenaView Gen (Counted V)} {entry : B 
       (cases_eq j v.0))
       (cases_eq j w.0)
 
-  -- The same exchange as contracts see it.
   pub swapped_view : map_view counted_view (view d) ≡ view_with_value (view_with_value (map_view counted_view (view b)) v.0 (u, n)) w.0 (t, m)
   swapped_view = ap (map_view counted_view) swapped ∙ (written-each counted_view (view_with_value (view b) v.0 (counted u n)) w.0 (counted t m)
       ∙ ap (λ (s : ArenaView Gen (V × ℕ)). view_with_value s w.0 (t, m)) (written-each counted_view (view b) v.0 (counted u n)))
@@ -104,7 +100,6 @@ module _ {B P Gen V : Type 0} {view : B → ArenaView Gen (Counted V)} {entry : 
         ∙ (ap (λ s. view_with_value (view_with_value s (key p).0 (counted u n)) (key q).0 (counted t m)) (two ∙ ap (λ s. view_with_value s (key q).0 (counted u n)) one)
         ∙ written_four (view b) (key p).0 (key q).0 (counted t m) (counted u n) (counted u n) (counted t m) apart)))
 
--- Values with different names are at different indexes.
 pub values_apart : {Gen V : Type 0} (entry : ℕ → Option (Gen × Counted V)) (v w : ℕ × Gen) (t u : V) (n m : ℕ) → entry v.0 ≡ Some (v.1, counted t n) → entry w.0 ≡ Some (w.1, counted u m) → v ≢ w → v.0 ≢ w.0
 values_apart entry v w t u n m first second differ same =
     let generation : v.1 ≡ w.1 = ap (λ e. e.0) (same_some (v.1, counted t n) (w.1, counted u m) (sym first ∙ (ap entry same ∙ second))) in

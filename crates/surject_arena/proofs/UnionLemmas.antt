@@ -20,7 +20,6 @@ use Rattle.surject_arena.proofs.SetReadLemmas.{seen, set_seen, key_seen, of_key,
 use Rattle.surject_arena.proofs.SetChangeLemmas.{same_entries, value_written, sizes_elsewhere, value_gone, sizes_kept}
 use Rattle.surject_arena.proofs.RedirectLemmas.{moved, stayed, keys_stayed, still_valid}
 
--- An exchange that is possible is made.
 pub exchange_made : {A Gen T P : Type 0} {view : A → ArenaView Gen T} {entry : A → ℕ → Option (Gen × T)} (state : (a : A) → ArenaState (view a) (entry a)) (links : A → LinkMap) (key : P → ℕ × Gen) (a b : A) (p q : P) (o : Option Unit)
     → ExchangesNext state links key a p q o b → CanExchange (entry a) (links a) (key p) (key q) → IsExchanged state links a b (key p).0 (key q).0
 exchange_made state links key a b p q None is can = absurd (is can)
@@ -42,7 +41,6 @@ module _ {A B P Gen K V : Type 0} (key : P → ℕ × Gen) (following : Gen → 
   value_w : (t : V) × (ventry b0 (key w).0 ≡ Some ((key w).1, counted t m))
   value_w = size_read key kstate vstate a0 b0 r (links a0) is (key q).0 (key w) m in_w.1 reads_m
 
-  -- Both sets together have at most as many keys as there are.
   pub both_fit : n + m ≤ count (kview a0)
   both_fit = sizes_fit key kstate vstate a0 b0 r (links a0) is (key v) (key w) value_v.0 value_w.0 n m value_v.1 value_w.1 differ
 

@@ -62,7 +62,6 @@ module _ {Gen X Y : Type 0} (f : X → Y) where
   ascends-each i [] is = tt
   ascends-each i (e ∷ es) is = (is.0, ascends-each (suc e.0.0) es is.1)
 
-  -- Removals and writes of mapped views.
   pub removed-each : (following : Gen → Gen) (s : ArenaView Gen X) (i : ℕ) → map_view f (view_after_removal following s i) ≡ view_after_removal following (map_view f s) i
   removed-each following s i = ap (with_entries (map_view f (view_after_removal following s i))) (sym (without_index-each i s.entries))
 
@@ -75,7 +74,6 @@ module _ {Gen X Y : Type 0} (f : X → Y) where
   pub count-each : (s : ArenaView Gen X) → count (map_view f s) ≡ count s
   count-each s = length-map s.entries each
 
-  -- Growths of mapped views.
   pub refuses-each : (s : ArenaView Gen X) (why : ReallocationError) → RefusesOneMore s why → RefusesOneMore (map_view f s) why
   refuses-each s refused.BeyondMaxCapacity is = (count-each s ∙ is.0, subst (λ (n : ℕ). IsBeyond s.maximum (n + 1)) (sym (count-each s)) is.1)
   refuses-each s refused.AllocError is = (count-each s ∙ is.0, λ beyond. is.1 (subst (λ (n : ℕ). IsBeyond s.maximum (n + 1)) (count-each s) beyond))
@@ -84,7 +82,6 @@ module _ {Gen X Y : Type 0} (f : X → Y) where
   grows-each greatest old new is = subst (λ (n : ℕ). GrowsToFit greatest (n + 1) (map_view f old) (map_view f new)) (sym (count-each old)) is
 
   module _ {A : Type 0} {view : A → ArenaView Gen X} {entry : A → ℕ → Option (Gen × X)} (state : (a : A) → ArenaState (view a) (entry a)) where
-    -- The entries of a mapped view.
     pub entry-each : (a : A) (i : ℕ) → entry_in (map_view f (view a)) i ≡ option_map (on_value f) (entry a i)
     entry-each a i = found-each i (view a).entries ∙ ap (option_map (on_value f)) ((state a).finds i)
 
@@ -102,7 +99,6 @@ module _ {Gen X Y : Type 0} (f : X → Y) where
     pub each-valid : (a : A) (p : ℕ × Gen) → IsValid (entry_in (map_view f (view a))) p → IsValid (entry a) p
     each-valid a p valid = let e = each-stored a p.0 p.1 valid.value valid.stored in record { value = e.0; stored = e.1 }
 
-    -- An insertion in a mapped view.
     pub added-each : (a b : A) (t : X) (p : ℕ × Gen) → IsInserted (entry a) (entry b) p t → count (view b) ≡ count (view a) + 1 → IfSome (view a).counter (λ g. p.1 ≡ g)
         → IfSome (view a).slots (λ slots. p.0 ≡ next_slot slots) → (view b).slots ≡ option_map with_next_filled (view a).slots → (view b).counter ≡ (view a).counter → (view b).maximum ≡ (view a).maximum
         → IsAdded (map_view f (view a)) (f t) p (map_view f (view b))

@@ -7,7 +7,6 @@ use Rattle.arena_traits.specs.Compressions.{Visit, IsVisit, VisitsAll}
 use Rattle.surject_arena.specs.declared.members.Member.{Member}
 use Rattle.surject_arena.specs.Renames.{visit, keys_of, AreMatched}
 
--- Lists that are matched, of a relation and of the lists of two functions.
 pub matched_by : {X Y Z : Type 0} (f : Z → X) (h : Z → Y) (zs : List Z) (matches : X → Y → Type 0) → ((z : Z) → matches (f z) (h z)) → AreMatched matches (map f zs) (map h zs)
 matched_by f h [] matches each = tt
 matched_by f h (z ∷ zs) matches each = (each z, matched_by f h zs matches each)

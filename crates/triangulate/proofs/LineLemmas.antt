@@ -11,21 +11,18 @@ use Rattle.triangulate.specs.declared.numbers.LineError.{LineError}
 use Rattle.triangulate.specs.RingTexts.{texts_of, IsRingText, AreRingTexts, ParsesRing}
 use Rattle.triangulate.specs.LinePolygons.{IsFirstUnparsed}
 
--- One ring more.
 pub rings_more : (lines : List (List ℕ)) (rings : List (List Point)) (line : List ℕ) (ring : List Point) → AreRingTexts lines rings → IsRingText line ring → AreRingTexts (lines ++ line ∷ []) (rings ++ ring ∷ [])
 rings_more [] [] line ring are is = (is, tt)
 rings_more [] (r ∷ rs) line ring are is = absurd are
 rings_more (l ∷ ls) [] line ring are is = absurd are
 rings_more (l ∷ ls) (r ∷ rs) line ring are is = (are.0, rings_more ls rs line ring are.1 is)
 
--- Lines have as many rings.
 as_many : (lines : List (List ℕ)) (rings : List (List Point)) → AreRingTexts lines rings → length lines ≡ length rings
 as_many [] [] are = refl
 as_many [] (ring ∷ rings) are = absurd are
 as_many (line ∷ lines) [] are = absurd are
 as_many (line ∷ lines) (ring ∷ rings) are = ap suc (as_many lines rings are.1)
 
--- Some lines have some rings.
 pub some_rings : (lines : List (Vec ℕ Global)) (rings : List (Vec Point Global)) → 0 < length lines → AreRingTexts (texts_of lines) (rings_of rings) → 0 < length rings
 some_rings lines rings some are = omega (arith, some, as_many (texts_of lines) (rings_of rings) are, length-map lines (λ (v : Vec ℕ Global). v.items), length-map rings (λ (v : Vec Point Global). v.items))
 
@@ -39,7 +36,6 @@ take-texts zero lines = refl
 take-texts (suc i) [] = refl
 take-texts (suc i) (l ∷ lines) = ap (λ texts. l.items ∷ texts) (take-texts i lines)
 
--- The first line that is not parsed.
 pub first_unparsed : (lines : List (Vec ℕ Global)) (i : ℕ) (line : Vec ℕ Global) (text : List ℕ) (rings : List (List Point)) (error : LineError) → i < length lines → line ≡ get_or lines i line → text ≡ line.items
     → AreRingTexts (texts_of (take i lines)) rings → ParsesRing text (Err error) → IsFirstUnparsed (texts_of lines) i error
 first_unparsed lines i line text rings error within is same before refused = record {

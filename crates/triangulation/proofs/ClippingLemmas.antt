@@ -24,12 +24,10 @@ turn_then : (rs : List Point) {ps qs : List Point} → IsTurnOf ps qs → IsTurn
 turn_then rs (unturned corners) two = two
 turn_then rs (turned_on a others turned one) two = turned_on a others rs (turn_then rs one two)
 
--- The corners that are left may be listed from another one.
 ears_turned : (ts : List Triangle) (corners rest turned : List Point) → AreEarsOf corners ts rest → IsTurnOf rest turned → AreEarsOf corners ts turned
 ears_turned [] corners rest turned ears turn = turn_then turned ears turn
 ears_turned (t ∷ ts) corners rest turned ears turn = (ears.0, ears.1, ears.2, ears_turned ts (t.a ∷ t.c ∷ ears.0) rest turned ears.3 turn)
 
--- An ear of the corners that are left is one more.
 ears_more : (ts : List Triangle) (corners remaining : List Point) (t : Triangle) (rest : List Point) → AreEarsOf corners ts remaining → IsTurnOf remaining (t.a ∷ t.b ∷ t.c ∷ rest) → IsEar t rest
     → AreEarsOf corners (ts ++ t ∷ []) (t.a ∷ t.c ∷ rest)
 ears_more [] corners remaining t rest ears turn ear = (rest, turn_then (t.a ∷ t.b ∷ t.c ∷ rest) ears turn, ear, unturned (t.a ∷ t.c ∷ rest))
@@ -41,7 +39,6 @@ outline_same ps = record { number = refl; area = refl; among = λ p has. has; tu
 pub outline_then : (ps qs rs : List Point) → IsSameOutline ps qs → IsSameOutline qs rs → IsSameOutline ps rs
 outline_then ps qs rs one two = record { number = two.number ∙ one.number; area = two.area ∙ one.area; among = λ p has. one.among p (two.among p has); turn = turn_then rs one.turn two.turn }
 
--- The list begins at the next corner.
 pub outline_turned : (e : Point) (es : List Point) → IsSameOutline (e ∷ es) (es ++ e ∷ [])
 outline_turned e es = record {
   number = length-append es (e ∷ []) ∙ omega arith;
@@ -60,7 +57,6 @@ total_more (s ∷ ts) t = grouped (triangle_area s) (total_area ts) (triangle_ar
     grouped : (x y z w : ℤ) → w ≡ y +ℤ z → x +ℤ w ≡ (x +ℤ y) +ℤ z
     grouped x y z w is = omega (arith, ints, is)
 
--- The area of an ear and of what is left.
 ear_area : (t : Triangle) (rest : List Point) → polygon_area (t.a ∷ t.b ∷ t.c ∷ rest) ≡ triangle_area t +ℤ polygon_area (t.a ∷ t.c ∷ rest)
 ear_area t rest =
     area_of_ear (coordinates t.a) (coordinates t.b) (coordinates t.c) (map coordinates rest)
@@ -72,7 +68,6 @@ clipping_starts corners = record { number = omega arith; each = All-nil (IsTrian
     zero_plus : (x : ℤ) → pos 0 +ℤ x ≡ x
     zero_plus x = omega (arith, ints)
 
--- An ear is clipped.
 pub ear_clipped : (corners : List Point) (ts : List Triangle) (remaining : List Point) (t : Triangle) (rest : List Point) → IsClipping corners ts remaining → IsSameOutline remaining (t.a ∷ t.b ∷ t.c ∷ rest) → IsEar t rest
     → IsClipping corners (ts ++ t ∷ []) (t.a ∷ t.c ∷ rest)
 ear_clipped corners ts remaining t rest clipping outline ear = record {
@@ -97,7 +92,6 @@ ear_clipped corners ts remaining t rest clipping outline ear = record {
     moved : (total ear left before all more listed : ℤ) → total +ℤ before ≡ all → listed ≡ before → listed ≡ ear +ℤ left → more ≡ total +ℤ ear → more +ℤ left ≡ all
     moved total ear left before all more listed one two three four = omega (arith, ints, one, two, three, four)
 
--- The remaining corners are listed from the next one on.
 pub clipping_turned : (corners : List Point) (ts : List Triangle) (x : Point) (xs : List Point) → IsClipping corners ts (x ∷ xs) → IsClipping corners ts (xs ++ x ∷ [])
 clipping_turned corners ts x xs clipping =
     let turned = outline_turned x xs in
@@ -109,7 +103,6 @@ clipping_turned corners ts x xs clipping =
       ears = ears_turned ts corners (x ∷ xs) (xs ++ x ∷ []) clipping.ears turned.turn;
     }
 
--- When two corners are left, the polygon is triangulated.
 pub clipping_ends : (corners : List Point) (ts : List Triangle) (remaining : List Point) → length remaining ≡ 2 → IsClipping corners ts remaining → IsTriangulation corners ts
 clipping_ends corners ts [] two clipping = absurd (omega (arith, two))
 clipping_ends corners ts (p ∷ []) two clipping = absurd (omega (arith, two))

@@ -15,11 +15,9 @@ use Rattle.triangulation.specs.declared.bounds.BoundingBox.{BoundingBox}
 use Rattle.triangulation.specs.Triangulations.{IsInTriangle}
 use Rattle.triangulation.specs.CornerIndexes.{IsInBox, AreBlocksOf, AreGroupsOf, AreListed, IsIndexOf, IsClearAt}
 
--- The block of an item is one of the blocks.
 pub block_below : (n len k : ℕ) → n < len → len / 32 + 1 ≤ k → n / 32 < k
 block_below n len k within all = omega (arith, within, all)
 
--- What holds of each item of a range holds of the item at a position in it.
 all_at : {X : Type 0} (P : X → Type 0) (xs : List X) (first end n : ℕ) (x : X) → All P (slice_range xs first end) → first ≤ n → n < end → slice_get xs n ≡ Some x → P x
 all_at P xs first end n x all from below is =
     let within = slice_get_within xs n x is in
@@ -35,7 +33,6 @@ module _ {X : Type 0} (Has : BoundingBox → X → Type 0) (items : List X) wher
   abbrev pub AreBoxesBelow : List BoundingBox → ℕ → Type 0
   AreBoxesBelow boxes k = (n : ℕ) (x : X) → slice_get items n ≡ Some x → n / 32 < k → (box : BoundingBox) × (slice_get boxes (n / 32) ≡ Some box) × Has box x
 
-  -- One more block.
   pub boxes_more : (boxes more : List BoundingBox) (box : BoundingBox) (k first end : ℕ) → AreBoxesBelow boxes k → length boxes ≡ k → more ≡ boxes ++ box ∷ [] → All (Has box) (slice_range items first end)
       → ((n : ℕ) → n < length items → n / 32 ≡ k → (first ≤ n) × (n < end)) → AreBoxesBelow more (k + 1)
   boxes_more boxes more box k first end below number pushed all range = λ n x is less.
@@ -51,7 +48,6 @@ module _ {X : Type 0} (Has : BoundingBox → X → Type 0) (items : List X) wher
           let old = below n x is before in
           (old.0, ap (λ (l : List BoundingBox). slice_get l (n / 32)) pushed ∙ (slice_get-left boxes (box ∷ []) (n / 32) (omega (arith, before, number)) ∙ old.1), old.2)
 
--- An index keeps its corners while entries are removed.
 pub index_kept : {Gen : Type 0} (old new : ℕ → Option (Gen × Point)) (pointers : List (ℕ × Gen)) (corners : List Point) (blocks groups : List BoundingBox) → ((i : ℕ) (e : Gen × Point) → new i ≡ Some e → old i ≡ Some e)
     → IsIndexOf old pointers corners blocks groups → IsIndexOf new pointers corners blocks groups
 index_kept old new pointers corners blocks groups kept index = record {
@@ -60,13 +56,11 @@ index_kept old new pointers corners blocks groups kept index = record {
   groups_of = index.groups_of;
 }
 
--- An empty arena has no entries to list.
 pub listed_none : {Gen : Type 0} (view : ArenaView Gen Point) (entry : ℕ → Option (Gen × Point)) → ArenaState view entry → view.entries ≡ [] → AreListed entry [] []
 listed_none view entry state none = λ p point is.
     let empty : found p.0 [] ≡ Some (p.1, point) = ap (λ l. found p.0 l) (sym none) ∙ (state.finds p.0 ∙ is) in
     absurd (cc)
 
--- One more entry is listed.
 pub listed_more : {Gen : Type 0} (old new : ℕ → Option (Gen × Point)) (pointers : List (ℕ × Gen)) (corners : List Point) (q : ℕ × Gen) (x : Point) → AreListed old pointers corners → length pointers ≡ length corners → IsInserted old new q x
     → AreListed new (pointers ++ q ∷ []) (corners ++ x ∷ [])
 listed_more {Gen} old new pointers corners q x listed number inserted = λ p point is.
@@ -87,12 +81,10 @@ listed_more {Gen} old new pointers corners q x listed number inserted = λ p poi
         let at = listed p point (sym (inserted.rest p.0 other) ∙ is) in
         (at.0, slice_get-left pointers (q ∷ []) at.0 (slice_get_within pointers at.0 p at.1) ∙ at.1, slice_get-left corners (x ∷ []) at.0 (slice_get_within corners at.0 point at.2) ∙ at.2)
 
--- All corners are the first one and those after it.
 pub first_and_rest : {X : Type 0} (xs : List X) (d : X) → 0 < length xs → get_or xs 0 d ∷ take (length xs - 1) (drop 1 xs) ≡ xs
 first_and_rest [] d some = absurd (omega (arith, some))
 first_and_rest (x ∷ xs) d some = ap (λ l. x ∷ l) (take_all (length (x ∷ xs) - 1) xs (omega arith))
 
--- One more corner is clear of the triangle.
 pub clear_here : {P Gen : Type 0} (key : P → ℕ × Gen) (entry : ℕ → Option (Gen × Point)) (pointers : List P) (corners : List Point) (t : Triangle) (i : ℕ) (q : P) (x : Point) → slice_get pointers i ≡ Some q → slice_get corners i ≡ Some x
     → (entry (key q).0 ≡ Some ((key q).1, x) → IsInTriangle t x → ⊥) → IsClearAt entry (map key pointers) corners t i
 clear_here {P} {Gen} key entry pointers corners t i q x at_q at_x clear = λ p point at_p at_point stored inside.
@@ -101,14 +93,12 @@ clear_here {P} {Gen} key entry pointers corners t i q x at_q at_x clear = λ p p
     clear (subst (λ (v : Point). entry (key q).0 ≡ Some ((key q).1, v)) value (subst (λ (k : ℕ × Gen). entry k.0 ≡ Some (k.1, point)) same stored)) (subst (λ (v : Point). IsInTriangle t v) value inside)
 
 module _ {Gen : Type 0} (entry : ℕ → Option (Gen × Point)) (pointers : List (ℕ × Gen)) (corners : List Point) (t : Triangle) (blocks : List BoundingBox) (are_blocks : AreBlocksOf corners blocks) where
-  -- Without a box of its block that has a point in the triangle, a corner is clear of it.
   pub block_clear : (n k : ℕ) (d : BoundingBox) → n / 32 ≡ k → ((p : Point) → IsInBox (get_or blocks k d) p → IsInTriangle t p → ⊥) → IsClearAt entry pointers corners t n
   block_clear n k d same never = λ p point at_p at_point stored inside.
       let at = are_blocks n point at_point in
       let is : get_or blocks k d ≡ at.0 = get_or_from_slice_get blocks k at.0 d (subst (λ (j : ℕ). slice_get blocks j ≡ Some at.0) same at.1) in
       never point (subst (λ (box : BoundingBox). IsInBox box point) (sym is) at.2) inside
 
-  -- Only a corner of one of the blocks need be clear.
   pub block_within : (n : ℕ) → (n / 32 < length blocks → IsClearAt entry pointers corners t n) → IsClearAt entry pointers corners t n
   block_within n clear = λ p point at_p at_point stored inside.
       let at = are_blocks n point at_point in
@@ -128,7 +118,6 @@ module _ {Gen : Type 0} (entry : ℕ → Option (Gen × Point)) (pointers : List
         let at = are_groups (n / 32) block.0 block.1 in
         clear (slice_get_within groups (n / 32 / 32) at.0 at.1) p point at_p at_point stored inside
 
--- Only a corner in both lists need be clear.
 pub listed_within : {P Gen : Type 0} (key : P → ℕ × Gen) (entry : ℕ → Option (Gen × Point)) (pointers : List P) (corners : List Point) (t : Triangle) (n : ℕ) → (n < length pointers → n < length corners → IsClearAt entry (map key pointers) corners t n) → IsClearAt entry (map key pointers) corners t n
 listed_within key entry pointers corners t n clear = λ p point at_p at_point stored inside.
     clear (omega (arith, slice_get_within (map key pointers) n p at_p, length-map pointers key)) (slice_get_within corners n point at_point) p point at_p at_point stored inside

@@ -21,7 +21,6 @@ pub record IsReached {Gen : Type 0} (items : List (Item Gen Point)) (at : ℕ ×
   pub read : List Point
   pub place : IsRead items at read n
 
--- Only three corners or more begin with an ear.
 pub three_first : {Gen : Type 0} (Q : List (Item Gen Point) → Type 0) (items : List (Item Gen Point)) → Q items → BeginsWithEar (points items)
     → ((a m b : Item Gen Point) (rest : List (Item Gen Point)) → Q (a ∷ m ∷ b ∷ rest) → IsEar (record { a = a.1; b = m.1; c = b.1 }) (points rest) → ⊥) → ⊥
 three_first Q [] holds ear never = ear
@@ -68,7 +67,6 @@ module _ {A Gen : Type 0} {view : A → ArenaView Gen Point} {entry : A → ℕ 
               };
             }
 
-      -- The list that begins there, of which the first three corners are no ear.
       pub none_there : count (view a) ≡ length items → SeesNoEar state interlinks a at → BeginsWithEar (points (drop n items ++ take n items)) → ⊥
       none_there alone sees ear = sees (is.place.here ∷ (is.place.rest ++ is.place.passed))
           (record { ring = ring_here state interlinks a start items from at is.read n is.place; first = ap Some (sym is.place.place) })
@@ -81,7 +79,6 @@ module _ {A Gen : Type 0} {view : A → ArenaView Gen Point} {entry : A → ℕ 
               (ap (λ (l : List (Item Gen Point)). l ++ take (length is.place.passed) (is.place.passed ++ is.place.here ∷ is.place.rest)) (drop-append_seam is.place.passed (is.place.here ∷ is.place.rest))
               ∙ ap (λ (l : List (Item Gen Point)). (is.place.here ∷ is.place.rest) ++ l) (take-append_seam is.place.passed (is.place.here ∷ is.place.rest))))
 
--- If no list of the items begins with an ear, the points have none.
 pub none_of_points : {Gen : Type 0} (items : List (Item Gen Point)) → ((n : ℕ) → n < length items → BeginsWithEar (points (drop n items ++ take n items)) → ⊥) → HasNoEar (points items)
 none_of_points items none n less ear = none n (omega (arith, less, length-map items (λ (e : Item _ Point). e.1))) (subst BeginsWithEar same ear)
   where
@@ -89,11 +86,9 @@ none_of_points items none n less ear = none n (omega (arith, less, length-map it
     same = ap (λ (l : List Point). l ++ take n (points items)) (drop-map (λ (e : Item _ Point). e.1) n items) ∙ (ap (λ (l : List Point). points (drop n items) ++ l) (take-map (λ (e : Item _ Point). e.1) n items)
         ∙ sym (map-append (λ (e : Item _ Point). e.1) (drop n items) (take n items)))
 
--- What holds below k and at k holds below k + 1.
 pub below_more : (N : ℕ → Type 0) (k : ℕ) → ((n : ℕ) → n < k → N n) → N k → (n : ℕ) → n < k + 1 → N n
 below_more N k all one n less = ⊎_elim (λ same. subst N (sym same) one) (λ other. ⊎_elim (λ below. all n below) (λ above. absurd (omega (arith, above, less))) other) (cases_order n k)
 
--- A clause on None holds if it holds anyway.
 pub if_none : {X : Type 0} (C : Type 0) (r : Option X) → C → IfNone r C
 if_none C None holds = holds
 if_none C (Some x) holds = tt

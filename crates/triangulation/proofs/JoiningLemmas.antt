@@ -35,7 +35,6 @@ in_left xs ys zs is p has = Contains-append_left ys zs p (is p has)
 in_right : (xs ys zs : List Point) → IsWithin xs zs → IsWithin xs (ys ++ zs)
 in_right xs ys zs is p has = Contains-append_right ys zs p (is p has)
 
--- The laws of areas, for points.
 turned_area_same : (xs ys : List Point) → polygon_area (xs ++ ys) ≡ polygon_area (ys ++ xs)
 turned_area_same xs ys = ap area.double_area (map-append coordinates xs ys) ∙ (area_of_turn (map coordinates xs) (map coordinates ys) ∙ ap area.double_area (sym (map-append coordinates ys xs)))
 
@@ -44,7 +43,6 @@ bridge_area x y ps qs =
     ap area.double_area (map-append coordinates ((x ∷ ps) ++ (x ∷ y ∷ qs)) (y ∷ []) ∙ ap (λ (l : List area.Point). l ++ coordinates y ∷ []) (map-append coordinates (x ∷ ps) (x ∷ y ∷ qs)))
     ∙ area_of_bridged (coordinates x) (coordinates y) (map coordinates ps) (map coordinates qs)
 
--- The ring goes from x over the bridge to y, around the hole, and back.
 both_areas : (a b c d : List Point) (x y : Point) → polygon_area ((((a ++ x ∷ []) ++ (y ∷ d)) ++ (c ++ y ∷ [])) ++ (x ∷ b)) ≡ polygon_area (a ++ x ∷ b) +ℤ polygon_area (c ++ y ∷ d)
 both_areas a b c d x y =
     let turned = turned_area_same (((a ++ x ∷ []) ++ (y ∷ d)) ++ (c ++ y ∷ [])) (x ∷ b) in
@@ -53,7 +51,6 @@ both_areas a b c d x y =
     let hole : polygon_area (y ∷ (d ++ c)) ≡ polygon_area (c ++ y ∷ d) = turned_area_same (y ∷ d) c in
     turned ∙ (ap polygon_area same ∙ (bridge_area x y (b ++ a) (d ++ c) ∙ (ap (λ (z : ℤ). z +ℤ polygon_area (y ∷ (d ++ c))) outline ∙ ap (λ (z : ℤ). polygon_area (a ++ x ∷ b) +ℤ z) hole)))
 
--- The four parts of a joined ring.
 abbrev joined_of : List Point → List Point → List Point → List Point → List Point
 joined_of a b c d = ((a ++ b) ++ c) ++ d
 
@@ -96,7 +93,6 @@ module _ (outline hole : List Point) (u v : ℕ) (origin : Point) (at_u : u < le
         (in_left _ outline hole (drop_within u outline)) p (subst (λ (l : List Point). Contains l p) is has);
   }
 
--- Lists of rings that are appended.
 corners_append : (xs ys : List (List Point)) → corners_of (xs ++ ys) ≡ corners_of xs ++ corners_of ys
 corners_append [] ys = refl
 corners_append (x ∷ xs) ys = ap (λ (l : List Point). x ++ l) (corners_append xs ys) ∙ sym (append_assoc x (corners_of xs) (corners_of ys))
@@ -128,7 +124,6 @@ join_starts outline = record {
     plus_zero : (z : ℤ) → z ≡ z +ℤ pos 0
     plus_zero z = omega (arith, ints)
 
--- One hole more.
 pub join_more : (outline : List Point) (holes : List (List Point)) (joined hole more : List Point) → AreJoined outline holes joined → IsBridged joined hole more → AreJoined outline (holes ++ hole ∷ []) more
 join_more outline holes joined hole more are is = record {
   number = omega (arith, is.number, are.number, length-append outline (corners_of holes), length-append outline (corners_of (holes ++ hole ∷ [])), ap length corners, length-append (corners_of holes) hole, length-append holes (hole ∷ []));
@@ -150,7 +145,6 @@ join_more outline holes joined hole more are is = record {
 pub clockwise_starts : AreClockwise [] []
 clockwise_starts = record { number = refl; corners = refl; area = refl; among = λ p has. has }
 
--- One hole more, inserted anywhere.
 pub clockwise_more : (holes turned : List (List Point)) (k : ℕ) (hole ring : List Point) → AreClockwise holes turned → IsTurnedTo turn.Clockwise hole ring → AreClockwise (holes ++ hole ∷ []) (take k turned ++ ring ∷ drop k turned)
 clockwise_more holes turned k hole ring are is = record {
   number = omega (arith, are.number, length-append (take k turned) (ring ∷ drop k turned), length-append (take k turned) (drop k turned), ap length whole, length-append holes (hole ∷ []));
@@ -192,7 +186,6 @@ clockwise_more holes turned k hole ring are is = record {
     summed : (all t r d w : ℤ) (hs h more : ℕ) → all ≡ t +ℤ (r +ℤ d) → w ≡ t +ℤ d → w ≡ neg_ℤ (pos hs) → r ≡ neg_ℤ (pos h) → more ≡ hs + (h + 0) → all ≡ neg_ℤ (pos more)
     summed all t r d w hs h more one two three four five = omega (arith, ints, one, two, three, four, five)
 
--- The outline and its holes are joined.
 pub ring_joined : (outline around : List Point) (holes turned : List (List Point)) (joined : List Point) → IsTurnedTo turn.Counterclockwise outline around → AreClockwise holes turned → AreJoined around turned joined → IsJoinedRing outline holes joined
 ring_joined outline around holes turned joined is are all = record {
   number = omega (arith, all.number, is.number, are.number, are.corners, length-append around (corners_of turned), length-append outline (corners_of holes));
@@ -239,7 +232,6 @@ reversed_is t ring turned is same = record {
   among = λ p has. reverse_within ring p (subst (λ (l : List Point). Contains l p) same has);
 }
 
--- What triangulates the joined ring triangulates the polygon.
 pub polygon_triangulated : (outline : List Point) (holes : List (List Point)) (joined : List Point) (triangles : List Triangle) → IsJoinedRing outline holes joined → IsTriangulation joined triangles → IsPolygonTriangulation outline holes triangles
 polygon_triangulated outline holes joined triangles ring is = record {
   number = omega (arith, ring.number, is.number);

@@ -22,7 +22,6 @@ module _ {A Gen : Type 0} {view : A → ArenaView Gen Point} {entry : A → ℕ 
   pub ring_begins : (a : A) (start : ℕ × Gen) (x : Point) → IsRing state interlinks a ((start, x) ∷ []) → count (view a) ≡ 1 → IsRingBetween state interlinks a start start (x ∷ [])
   ring_begins a start x is one = record { before = []; point = x; ring = record { ring = is; first = refl }; all = refl; alone = one }
 
-  -- One corner more is inserted at the end.
   pub ring_grows : (old new : A) (start last next : ℕ × Gen) (x : Point) (corners more : List Point) → IsRingBetween state interlinks old start last corners → InsertsAfter state interlinks cyclic old new last (next, x) → count (view new) ≡ count (view old) + 1 → more ≡ corners ++ x ∷ []
       → IsRingBetween state interlinks new start next more
   ring_grows old new start last next x corners more ring inserts size is =
@@ -44,7 +43,6 @@ module _ {A Gen : Type 0} {view : A → ArenaView Gen Point} {entry : A → ℕ 
   whole_ring : (a : A) (start : ℕ × Gen) (corners : List Point) (ring : IsRingOf state interlinks a start corners) → IsWholeRing state interlinks a ring.items (length corners)
   whole_ring a start corners ring = record { number = omega (arith, ap length ring.all, length-map ring.items (λ (e : Item Gen Point). e.1)); alone = ring.alone }
 
-  -- What clips the ring of the corners triangulates them.
   pub points_triangulated : (a : A) (start : ℕ × Gen) (corners : List Point) (result : Result (Vec Triangle Global) TriangulationError) → 3 ≤ length corners → IsRingOf state interlinks a start corners → ClipsEars state interlinks a start (length corners) result → TriangulatesPoints corners result
   points_triangulated a start corners (Ok triangles) three ring clips = (three, subst (λ (l : List Point). IsTriangulation l triangles.items) ring.all (clips ring.items ring.ring (whole_ring a start corners ring) (omega (arith, three))))
   points_triangulated a start corners (Err why.InvalidPointer) three ring clips = clips

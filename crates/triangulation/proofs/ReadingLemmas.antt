@@ -35,14 +35,12 @@ stored_some entry [] i s has = absurd has
 stored_some entry (x ∷ xs) i s (inl is) = ap (λ k. is_some (entry k)) (sym is) ∙ ap is_some s.0
 stored_some entry (x ∷ xs) i s (inr has) = stored_some entry xs i s.1 has
 
--- The first item does not come again.
 first_once : {Gen : Type 0} (passed : List (Item Gen Point)) (here f : Item Gen Point) (fs : List (Item Gen Point)) → AreDistinct (indexes (passed ++ here ∷ f ∷ fs)) → first_key (passed ++ here ∷ f ∷ fs) ≡ Some f.0 → ⊥
 first_once [] here f fs distinct first = distinct.0 (inl (ap (λ (k : ℕ × _). k.0) (sym (one_some first))))
 first_once (x ∷ xs) here f fs distinct first = distinct.0 (subst (λ (l : List ℕ). IsMember l x.0.0) (sym (map-append index_of xs (here ∷ f ∷ fs)))
     (IsMember-right (indexes xs) (indexes (here ∷ f ∷ fs)) x.0.0 (inr (inl (ap (λ (k : ℕ × _). k.0) (sym (one_some first)))))))
 
 module _ {A Gen : Type 0} {view : A → ArenaView Gen Point} {entry : A → ℕ → Option (Gen × Point)} (state : (a : A) → ArenaState (view a) (entry a)) (interlinks : A → LinkMap) where
-  -- A ring has no more corners than the arena has entries.
   pub few_corners : (a : A) (items : List (Item Gen Point)) → IsRing state interlinks a items → length items ≤ count (view a)
   few_corners a items is =
       let among = length_among (indexes items) (map index_of (view a).entries) is.chain.1 (λ i has. found_has i (view a).entries (ap is_some ((state a).finds i) ∙ stored_some (entry a) items i is.are_stored has)) in
@@ -86,7 +84,6 @@ module _ {A Gen : Type 0} {view : A → ArenaView Gen Point} {entry : A → ℕ 
           pub next_key : Some (key q) ≡ first_key ((is.rest ++ is.passed) ++ is.here ∷ [])
           next_key = sym (ap (option_map key) got) ∙ next_here
 
-          -- One corner more.
           pub read_more : (more : List Point) (v : Point) → more ≡ read ++ v ∷ [] → v ≡ is.here.1 → (key q ≡ start → ⊥) → IsRead items (key q) more (n + 1)
           read_more more v pushed value other = by is.rest is.split next_key
             where
@@ -102,7 +99,6 @@ module _ {A Gen : Type 0} {view : A → ArenaView Gen Point} {entry : A → ℕ 
                 number = omega (arith, length-append is.passed (is.here ∷ []), is.number);
               }
 
-          -- Back at the start, all corners have been read.
           pub read_all : (more : List Point) (v : Point) → more ≡ read ++ v ∷ [] → v ≡ is.here.1 → key q ≡ start → points items ≡ more
           read_all more v pushed value back = by is.rest is.split next_key
             where

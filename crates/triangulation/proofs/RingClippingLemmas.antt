@@ -26,7 +26,6 @@ module _ {A Gen : Type 0} {view : A → ArenaView Gen Point} {entry : A → ℕ 
   pub turn_starts : (a : A) (items : List (Item Gen Point)) (p : ℕ × Gen) → IsRingFrom state interlinks a p items → IsTurned state interlinks a items p
   turn_starts a items p from = record { turned = items; ring = from; outline = outline_same (points items) }
 
-  -- One corner further.
   pub turn_goes_on : {P : Type 0} (key : P → ℕ × Gen) (a : A) (items : List (Item Gen Point)) (p q : P) (r : Option P) → ReadsNextInRing state interlinks key a p r → r ≡ Some q
       → IsTurned state interlinks a items (key p) → IsTurned state interlinks a items (key q)
   turn_goes_on key a items p q r reads is turn = by turn.turned turn.ring turn.outline
@@ -46,7 +45,6 @@ module _ {A Gen : Type 0} {view : A → ArenaView Gen Point} {entry : A → ℕ 
                 (subst (λ (l : List Point). IsSameOutline (points (e ∷ es)) l) (sym (map-append (λ (x : Item Gen Point). x.1) es ((key p, e.1) ∷ []))) (outline_turned e.1 (points es)));
           }
 
-  -- An ear that was seen is one of the ring.
   pub ear_seen : (a : A) (items : List (Item Gen Point)) (p corner after : ℕ × Gen) (t : Triangle) → IsTurned state interlinks a items p → 3 ≤ length items → IsEarAfter state interlinks a p corner after t → HasEar state interlinks a items p corner after t
   ear_seen a items p corner after t turn three ear = by turn.turned turn.ring turn.outline (omega (arith, three, turn.outline.number, length-map turn.turned (λ (x : Item Gen Point). x.1), length-map items (λ (x : Item Gen Point). x.1)))
     where
@@ -75,7 +73,6 @@ module _ {A Gen : Type 0} {view : A → ArenaView Gen Point} {entry : A → ℕ 
         let same : v ≡ t.b = value_read (entry old) (pointers.key q) (pointers.key q, t.b) v removes.removed.0 refl ear.ring.are_stored.1.0 in
         (removes.list ((p, t.a) ∷ []) ((after, t.c) ∷ ear.rest) (subst (λ (w : Point). IsRing state interlinks old ((p, t.a) ∷ (pointers.key q, w) ∷ (after, t.c) ∷ ear.rest)) (sym same) ear.ring) (λ none. cc), removes.size)
 
-    -- No entry is new.
     pub entries_kept : (q : P) (result : Option Point) → RemovesItem state interlinks cyclic pointers old q result new → (i : ℕ) (e : Gen × Point) → entry new i ≡ Some e → entry old i ≡ Some e
     entries_kept q None removes i e is = subst (λ (a : A). entry a i ≡ Some e) removes.1 is
     entries_kept q (Some v) removes i e is = ⊎_elim (λ same. absurd (let none : None ≡ Some e = sym removes.gone ∙ (ap (entry new) (sym same) ∙ is) in cc)) (λ other. ⊎_elim (λ below. others (λ at. omega (arith, at, below))) (λ above. others (λ at. omega (arith, at, above))) other) (cases_order i (pointers.key q).0)
@@ -83,7 +80,6 @@ module _ {A Gen : Type 0} {view : A → ArenaView Gen Point} {entry : A → ℕ 
         others : (i ≡ (pointers.key q).0 → ⊥) → entry old i ≡ Some e
         others differs = sym (removes.entries i differs) ∙ is
 
-    -- One ear more is clipped.
     pub remaining_shrinks : (q : P) (result : Option Point) (items : List (Item Gen Point)) (ts : List Triangle) (start p after : ℕ × Gen) (left : ℕ) (t : Triangle) (before : IsRemaining state interlinks old items ts start left)
         → HasEar state interlinks old before.remaining p (pointers.key q) after t → RemovesItem state interlinks cyclic pointers old q result new → IsRemaining state interlinks new items (ts ++ t ∷ []) after (left - 1)
     remaining_shrinks q result items ts start p after left t before ear removes =

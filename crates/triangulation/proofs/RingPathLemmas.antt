@@ -49,7 +49,6 @@ module _ (ring : List Point) (at : Point) (i : ℕ) (is : IsPathTo ring at i) (m
         ∙ (ap (λ (l : List Point). l ++ (get_or ring i origin ∷ drop (suc i) ring)) is.whole ∙ append_assoc is.front (at ∷ []) (get_or ring i origin ∷ drop (suc i) ring));
   }
 
-  -- The path is longer by an edge.
   path_longer : (F : List Point → ℤ) → F ((is.front ++ at ∷ []) ++ get_or ring i origin ∷ []) ≡ F (is.last ∷ take (i + 1) ring)
   path_longer F = ap F (ap (λ (l : List Point). l ++ get_or ring i origin ∷ []) (sym is.whole) ∙ ap (λ (l : List Point). is.last ∷ l) (sym (take_more ring i origin more)))
 
@@ -65,7 +64,6 @@ pub area_more : (ring : List Point) (at : Point) (i : ℕ) (sum edge : ℤ) → 
 unfolding path_more
 area_more ring at i sum edge has more is = record { path = path_more ring at i has.path more; total = all }
   where
-    -- The path to `at`, and the edge from there.
     parts : area.path_area (map coordinates ((has.path.front ++ at ∷ []) ++ get_or ring i origin ∷ [])) ≡ area.path_area (map coordinates (has.path.front ++ at ∷ [])) +ℤ area.edge_area (coordinates at) (coordinates (get_or ring i origin))
     parts =
         let split = path_split (map coordinates has.path.front) (coordinates at) (coordinates (get_or ring i origin) ∷ []) in
@@ -91,7 +89,6 @@ area_ends ring at i sum has end = has.total ∙ (ap (λ (l : List Point). area.p
         ∙ (area_of_turn (coordinates has.path.last ∷ []) (map coordinates has.path.start)
         ∙ ap area.double_area (sym (map-append coordinates has.path.start (has.path.last ∷ []))))
 
--- One more edge at the end of a path.
 crossings_grow : (p : Point) (front : List Point) (a b : Point) (n k : ℕ) → HasCrossings p (front ++ a ∷ []) n → IsCrossing p a b k → HasCrossings p (front ++ a ∷ b ∷ []) (n + k)
 crossings_grow p [] a b n k has is = (k, 0, is, refl, omega (arith, has))
 crossings_grow p (x ∷ []) a b n k has is = (has.0, has.1 + k, has.2, crossings_grow p [] a b has.1 k has.3 is, omega (arith, has.4))
@@ -114,6 +111,5 @@ crossings_more p ring at i n k has more is = record {
       (crossings_grow p has.path.front at (get_or ring i origin) n k (subst (λ (l : List Point). HasCrossings p l n) has.path.whole has.number) is);
 }
 
--- The whole path.
 pub crossings_end : (p : Point) (ring : List Point) (at : Point) (i n : ℕ) → HasPathCrossings p ring at i n → length ring ≤ i → (path : List Point) × IsAround ring path × HasCrossings p path n
 crossings_end p ring at i n has end = (has.path.last ∷ ring, record { front = has.path.start; last = has.path.last; corners = has.path.corners; whole = refl }, subst (λ (l : List Point). HasCrossings p (has.path.last ∷ l) n) (take_all i ring end) has.number)

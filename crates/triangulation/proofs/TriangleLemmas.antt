@@ -10,7 +10,6 @@ use Rattle.triangulation.specs.declared.bounds.BoundingBox.{BoundingBox}
 use Rattle.triangulation.specs.Triangulations.{coordinates, triangle_area, IsInTriangle}
 use Rattle.triangulation.specs.CornerIndexes.{IsInBox}
 
--- The area of a triangle with two corners at one height.
 difference_times : (a b c : ℤ) → (a -ℤ b) *ℤ c ≡ a *ℤ c -ℤ b *ℤ c
 difference_times a b c =
     let flat = area_of_triangle (b, pos 0) (a, pos 0) (b, c) in
@@ -30,7 +29,6 @@ sum_times a b c =
     first : (j k : ℤ) → j +ℤ k -ℤ k ≡ j
     first j k = omega (arith, ints)
 
--- One more, and one less, in the first factor.
 more_assoc : (a b c : ℤ) → (a *ℤ b) *ℤ c ≡ a *ℤ (b *ℤ c) → (suc_ℤ a *ℤ b) *ℤ c ≡ suc_ℤ a *ℤ (b *ℤ c)
 more_assoc a b c rest = ap (λ (k : ℤ). k *ℤ c) (suc_ℤ-*ℤ a b) ∙ (sum_times (a *ℤ b) b c ∙ (ap (λ (k : ℤ). k +ℤ b *ℤ c) rest ∙ sym (suc_ℤ-*ℤ a (b *ℤ c))))
 
@@ -49,7 +47,6 @@ times_assoc (negsuc (suc n)) b c = less_assoc (negsuc n) b c (times_assoc (negsu
 times_swap : (a b c : ℤ) → (a *ℤ b) *ℤ c ≡ (c *ℤ b) *ℤ a
 times_swap a b c = times_assoc a b c ∙ (*ℤ_comm a (b *ℤ c) ∙ ap (λ (k : ℤ). k *ℤ a) (*ℤ_comm b c))
 
--- Three vectors, each times the area between the others.
 areas_times : (x y z p q r : ℤ) → (y *ℤ r -ℤ z *ℤ q) *ℤ x +ℤ ((z *ℤ p -ℤ x *ℤ r) *ℤ y +ℤ (x *ℤ q -ℤ y *ℤ p) *ℤ z) ≡ pos 0
 areas_times x y z p q r =
     let one = difference_times (y *ℤ r) (z *ℤ q) x in
@@ -74,7 +71,6 @@ areas_times_other x y z p q r =
 one_times : (u : ℤ) → pos 1 *ℤ u ≡ u
 one_times u = let more = suc_ℤ-*ℤ (pos 0) u in let none = zero-*ℤ u in omega (arith, ints, more, none)
 
--- A product of two numbers that are not negative.
 product_positive : (k u : ℤ) → pos 0 ≤ℤ k → pos 0 ≤ℤ u → pos 0 ≤ℤ (k *ℤ u)
 product_positive (pos m) (pos n) a b = omega (arith, ints)
 product_positive (pos m) (negsuc n) a b = absurd (omega (arith, ints, b))
@@ -114,14 +110,12 @@ module _ (x y z u v w : ℤ) (first : pos 0 ≤ℤ u) (second : pos 0 ≤ℤ v) 
       let three = times_below z w third c in
       omega (arith, ints, some, one, two, three, sum)
 
--- The orientation of two corners and a point, as an area between vectors from the point.
 seen_from : (a b p : area.Point) → area.orientation a b p ≡ area.orientation p a b
 seen_from a b p = sym (area_of_triangle a b p) ∙ (area_of_turn (a ∷ b ∷ []) (p ∷ []) ∙ area_of_triangle p a b)
 
 edges_cancel : (p q : area.Point) → area.edge_area p q +ℤ area.edge_area q p ≡ pos 0
 edges_cancel p q = omega (arith, ints)
 
--- The triangles from a point to the sides have the triangle's area together.
 three_areas : (a b c p : area.Point) → area.orientation p b c +ℤ area.orientation p c a +ℤ area.orientation p a b ≡ area.orientation a b c
 three_areas a b c p = added (area.edge_area a b) (area.edge_area b c) (area.edge_area c a) (area.edge_area p a) (area.edge_area a p) (area.edge_area p b) (area.edge_area b p) (area.edge_area p c) (area.edge_area c p) _ _ _ _
     (edges_cancel p a) (edges_cancel p b) (edges_cancel p c) (area_of_triangle p b c) (area_of_triangle p c a) (area_of_triangle p a b) (area_of_triangle a b c)

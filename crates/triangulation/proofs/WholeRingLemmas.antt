@@ -16,7 +16,6 @@ use Rattle.triangulation.specs.Clippings.{points}
 use Rattle.triangulation.proofs.ClippingLemmas.{in_tail, at_head, head_or_tail}
 use Rattle.triangulation.proofs.ReadingLemmas.{stored_some}
 
--- An entry is one of the items, or its index is none of theirs.
 item_or_none : {Gen : Type 0} (entry : ℕ → Option (Gen × Point)) (xs : List (Item Gen Point)) (k : ℕ × Gen) (v : Point) → AreEntries entry xs → entry k.0 ≡ Some (k.1, v) → Contains (points xs) v ⊎ (IsMember (indexes xs) k.0 → ⊥)
 item_or_none entry [] k v s is = inr (λ has. has)
 item_or_none {Gen} entry (x ∷ xs) k v s is = ⊎_elim (λ same. inl (subst (λ (p : Point). Contains (points (x ∷ xs)) p) (value same) (at_head x.1 (points xs)))) (λ other. ⊎_elim (λ below. later (item_or_none entry xs k v s.1 is) (λ e. omega (arith, e, below))) (λ above. later (item_or_none entry xs k v s.1 is) (λ e. omega (arith, e, above))) other) (cases_order x.0.0 k.0)
@@ -27,7 +26,6 @@ item_or_none {Gen} entry (x ∷ xs) k v s is = ⊎_elim (λ same. inl (subst (λ
     later : Contains (points xs) v ⊎ (IsMember (indexes xs) k.0 → ⊥) → (x.0.0 ≡ k.0 → ⊥) → Contains (points (x ∷ xs)) v ⊎ (IsMember (indexes (x ∷ xs)) k.0 → ⊥)
     later rest differ = ⊎_elim (λ has. inl (in_tail x.1 (points xs) v has)) (λ none. inr (λ has. ⊎_elim differ none has)) rest
 
--- A point of the items is stored.
 pub stored_point : {Gen : Type 0} (entry : ℕ → Option (Gen × Point)) (items : List (Item Gen Point)) (p : Point) → AreEntries entry items → Contains (points items) p → (k : ℕ × Gen) × (entry k.0 ≡ Some (k.1, p))
 stored_point entry [] p stored has = absurd (omega (arith, has.1))
 stored_point {Gen} entry (x ∷ xs) p stored has = head_or_tail x.1 (points xs) p ((k : ℕ × Gen) × (entry k.0 ≡ Some (k.1, p))) has
@@ -44,7 +42,6 @@ module _ {A Gen : Type 0} {view : A → ArenaView Gen Point} {entry : A → ℕ 
       among : (i : ℕ) → IsMember (k.0 ∷ indexes items) i → IsMember (map index_of (view a).entries) i
       among i has = found_has i (view a).entries (ap is_some ((state a).finds i) ∙ some i has)
 
--- A corner in a triangle is none of its three.
 pub others_have : (t : Triangle) (rest : List Point) (p : Point) → Contains (t.a ∷ t.b ∷ t.c ∷ rest) p → IsInTriangle t p → Contains rest p
 others_have t rest p has is = head_or_tail t.a (t.b ∷ t.c ∷ rest) p (Contains rest p) has (λ e. absurd (is.not_first (sym e)))
     (λ after_a. head_or_tail t.b (t.c ∷ rest) p (Contains rest p) after_a (λ e. absurd (is.not_second (sym e)))

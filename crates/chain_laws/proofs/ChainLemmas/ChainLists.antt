@@ -4,13 +4,11 @@ use Rattle.chain_laws.specs.Chains.{LinkMap, HasLink, IsMember, AreDistinct, Cha
 use Rattle.chain_laws.proofs.ListLemmas.Members.{IsMember-left, IsMember-right, IsMember-parts, AreDistinct-left, AreDistinct-right, AreDistinct-apart}
 use Rattle.chain_laws.proofs.ChainLemmas.Uniqueness.{chain_valid}
 
--- An item of a chain is among the items of all.
 pub IsMember-all_items : (chains : List Chain) (c : Chain) (i : ℕ) → HasChain chains c → IsMember (items c) i → IsMember (all_items chains) i
 IsMember-all_items [] c i m h = elim m [ ]
 IsMember-all_items (d ∷ chains) c i (inl e) h = IsMember-left (items d) (all_items chains) i (subst (λ (x : Chain). IsMember (items x) i) (sym e) h)
 IsMember-all_items (d ∷ chains) c i (inr m) h = IsMember-right (items d) (all_items chains) i (IsMember-all_items chains c i m h)
 
--- An item of all the chains is in one of them.
 pub chain_at : (chains : List Chain) (i : ℕ) → IsMember (all_items chains) i → (c : Chain) × HasChain chains c × IsMember (items c) i
 chain_at [] i h = elim h [ ]
 chain_at (d ∷ chains) i h = by_part (IsMember-parts (items d) (all_items chains) i h) (chain_at chains i)
@@ -20,13 +18,11 @@ chain_at (d ∷ chains) i h = by_part (IsMember-parts (items d) (all_items chain
     by_part (inl k) rest = (d, inl refl, k)
     by_part (inr k) rest = let w = rest k in (w.0, inr w.1, w.2)
 
--- If all items have no repetition, no chain has any.
 pub once_each : (chains : List Chain) (c : Chain) → AreDistinct (all_items chains) → HasChain chains c → AreDistinct (items c)
 once_each [] c once m = elim m [ ]
 once_each (d ∷ chains) c once (inl e) = subst (λ (x : Chain). AreDistinct (items x)) e (AreDistinct-left (items d) (all_items chains) once)
 once_each (d ∷ chains) c once (inr m) = once_each chains c (AreDistinct-right (items d) (all_items chains) once) m
 
--- An index is in only one chain of a list without repetition.
 pub once_chain : (chains : List Chain) (c d : Chain) (i : ℕ) → AreDistinct (all_items chains) → HasChain chains c → HasChain chains d
     → IsMember (items c) i → IsMember (items d) i → c ≡ d
 once_chain [] c d i once m n h k = elim m [ ]
@@ -38,7 +34,6 @@ once_chain (b ∷ chains) c d i once (inr m) (inl f) h k =
 once_chain (b ∷ chains) c d i once (inr m) (inr n) h k =
     once_chain chains c d i (AreDistinct-right (items b) (all_items chains) once) m n h k
 
--- Items of chains of an arena are valid.
 pub all_items_valid : (link_map : LinkMap) (chains : List Chain) (i : ℕ) → ((c : Chain) → HasChain chains c → IsChain link_map c) → IsMember (all_items chains) i → HasLink link_map i
 all_items_valid link_map chains i each h =
     let w = chain_at chains i h in

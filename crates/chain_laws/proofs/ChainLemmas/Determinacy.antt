@@ -13,19 +13,16 @@ use Rattle.chain_laws.proofs.ChainLemmas.Existence.{ChainOf, stored_in, has_chai
 use Rattle.chain_laws.proofs.JoinLemmas.Chains.{joined_connects}
 use Rattle.chain_laws.proofs.JoinLemmas.LoneLinks.{with_lone_adds}
 
--- A list linked in two arenas has the same interlinks there.
 pub AreLinked-same : (left right : LinkMap) (before : Option ℕ) (xs : List ℕ) (after : Option ℕ) (i : ℕ)
     → AreLinked left before xs after → AreLinked right before xs after → IsMember xs i → left i ≡ right i
 AreLinked-same left right before [] after i s t h = elim h [ ]
 AreLinked-same left right before (x ∷ xs) after i s t (inl e) = subst (λ (j : ℕ). left j ≡ right j) e (s.0 ∙ sym t.0)
 AreLinked-same left right before (x ∷ xs) after i s t (inr h) = AreLinked-same left right (Some x) xs after i s.1 t.1 h
 
--- A chain of two arenas has the same interlinks there.
 pub IsChain-same : (left right : LinkMap) (c : Chain) (i : ℕ) → IsChain left c → IsChain right c → IsMember (items c) i → left i ≡ right i
 IsChain-same left right (linear xs) i s t h = AreLinked-same left right None xs None i s.2 t.2 h
 IsChain-same left right (cyclic xs) i s t h = AreLinked-same left right (last_or xs None) xs (first_or xs None) i s.2 t.2 h
 
--- If a chain is in another arena, so is each chain with a common index.
 pub chain_elsewhere : (left right : LinkMap) (c d : Chain) (i : ℕ) → IsChain left c → IsChain left d → IsChain right d → IsMember (items c) i → IsMember (items d) i → IsChain right c
 chain_elsewhere left right (linear xs) (linear ys) i c d there h k =
     subst (λ (zs : List ℕ). IsChain right (linear zs)) (sym (one_linear left xs ys i c d h k)) there
@@ -51,7 +48,6 @@ pub record NamesChains (Holds : LinkMap → Type 0) (a b : ℕ) : Type 0 where
   pub left_stored : (new : LinkMap) → Holds new → IsChain new left
   pub right_stored : (new : LinkMap) → Holds new → IsChain new right
 
--- `Holds` determines all chains if it determines those of a and b, and keeps the others.
 pub settled : (old one other : LinkMap) (Holds : LinkMap → Type 0) (a b : ℕ) → ((new : LinkMap) → Holds new → KeepsChainsWithout old new a b)
     → NamesChains Holds a b → Holds one → Holds other → HaveSameChains one other
 settled old one other Holds a b keeps settles m n c = (alike one other m n, alike other one n m)
@@ -65,7 +61,6 @@ settled old one other Holds a b keeps settles m n c = (alike one other m n, alik
             chain_elsewhere left right c settles.right b chain (settles.right_stored left l) (settles.right_stored right r) h settles.has_b
         by (inr none_a) (inr none_b) = (keeps right r c none_a none_b).0 ((keeps left l c none_a none_b).1 chain)
 
--- The chain of an index without a next link ends there.
 pub end_chain : (link_map : LinkMap) (a : ℕ) → ChainOf link_map a → next_of link_map a ≡ None → (x : List ℕ) × IsChain link_map (linear (x ++ a ∷ []))
 end_chain link_map a (stored_in (linear xs) chain has) end = let w = IsMember-written xs a has in by w.0 w.1 w.2
   where
@@ -82,7 +77,6 @@ end_chain link_map a (stored_in (cyclic xs) chain has) end =
     by [] ring = let on = reports_next link_map a _ _ ring.2.0 in absurd (cc)
     by (k ∷ rest) ring = let on = reports_next link_map a _ _ ring.2.0 in absurd (cc)
 
--- The chain of an index without a previous link starts there.
 pub start_chain : (link_map : LinkMap) (b : ℕ) → ChainOf link_map b → prev_of link_map b ≡ None → (y : List ℕ) × IsChain link_map (linear (b ∷ y))
 start_chain link_map b (stored_in (linear xs) chain has) start = let w = IsMember-written xs b has in by w.0 w.1 w.2
   where
@@ -100,7 +94,6 @@ start_chain link_map b (stored_in (cyclic xs) chain has) start =
     let some = last.1 None in
     absurd (cc)
 
--- `Connects` determines the chain of a and b.
 connected : (old : LinkMap) (a b : ℕ) (x y : List ℕ) → IsChain old (linear (x ++ a ∷ [])) → IsChain old (linear (b ∷ y))
     → NamesChains (λ (new : LinkMap). Connects old new a b) a b
 connected old a b x y left right = by (IsMember-or_not (x ++ a ∷ []) b)
@@ -118,7 +111,6 @@ connected old a b x y left right = by (IsMember-or_not (x ++ a ∷ []) b)
         in_one (linear ((x ++ a ∷ []) ++ b ∷ y)) (IsMember-left (x ++ a ∷ []) (b ∷ y) a (IsMember-middle x [] a)) (IsMember-middle (x ++ a ∷ []) y b)
         (λ new connects. connects.two x y left right none)
 
--- `Connects` gives exactly the chains of the join.
 pub join_is_determined : JoinIsDetermined
 join_is_determined old new slots a b agrees within ends connects =
     let x = end_chain old a (has_chain old slots agrees within a ends.valid_end) ends.end in
@@ -126,7 +118,6 @@ join_is_determined old new slots a b agrees within ends connects =
     settled old new (with_join old a b) (λ (s : LinkMap). Connects old s a b) a b (λ s made. made.rest)
     (connected old a b x.0 y.0 x.1 y.1) connects (joined_connects old a b)
 
--- Two arenas with a lone q added have the same chains.
 added_alike : (old left right : LinkMap) (q : ℕ) → AddsLone old left q → AddsLone old right q → (c : Chain) → IsChain left c → IsChain right c
 added_alike old left right q l r c chain = by (IsMember-or_not (items c) q)
   where
@@ -134,20 +125,17 @@ added_alike old left right q l r c chain = by (IsMember-or_not (items c) q)
     by (inl h) = chain_elsewhere left right c (linear (q ∷ [])) q chain l.alone r.alone h (inl refl)
     by (inr none) = (r.rest c none).0 ((l.rest c none).1 chain)
 
--- `AddsLone` gives exactly the chains with the lone link.
 pub lone_is_determined : LoneIsDetermined
 lone_is_determined old new q free adds c =
     let lone = with_lone_adds old q free in
     (added_alike old new (with_lone old q) q adds lone c, added_alike old (with_lone old q) new q lone adds c)
 
--- Valid indexes have the same interlinks in an arena with the same chains.
 reports_alike : (left right : LinkMap) (slots : ℕ) → IsWellLinked left → HasLinksWithin left slots → HaveSameChains left right → (i : ℕ) → HasLink left i → left i ≡ right i
 reports_alike left right slots agrees within same i valid = by (has_chain left slots agrees within i valid)
   where
     by : ChainOf left i → left i ≡ right i
     by (stored_in c chain has) = IsChain-same left right c i chain ((same c).0 chain) has
 
--- Well-linked arenas with the same chains are equal.
 pub chains_decide : ChainsDecide
 chains_decide left right slots agrees_left agrees_right within_left within_right same = fun_ext (λ i. by i (left i) refl (right i) refl)
   where
@@ -156,7 +144,6 @@ chains_decide left right slots agrees_left agrees_right within_left within_right
     by i None e None f = e ∙ sym f
     by i None e (Some m) f = sym (reports_alike right left slots agrees_right within_right (λ c. ((same c).1, (same c).0)) i (record { link = m; links = f }))
 
--- Well-linked arenas with the same links and neighbor pairs are equal.
 pub pairs_decide : PairsDecide
 pairs_decide left right agrees_left agrees_right links pairs = fun_ext (λ i. by i (left i) refl (right i) refl)
   where

@@ -22,20 +22,17 @@ pub data ChainOf (link_map : LinkMap) (k : ℕ) : Type 0 where
   stored_in : (c : Chain) → IsChain link_map c → IsMember (items c) k → ChainOf link_map k
 
 module _ (link_map : LinkMap) (slots : ℕ) (agrees : IsWellLinked link_map) (within : HasLinksWithin link_map slots) where
-  -- There are no more distinct valid indexes than slots.
   bounded : (xs : List ℕ) → AreDistinct xs → ((i : ℕ) → IsMember xs i → HasLink link_map i) → slots < length xs → ⊥
   bounded xs once valid more =
       let bound : length xs ≤ slots = length_bound xs slots once (λ i h. within.within i (valid i h)) in
       omega arith
 
-  -- What follows a list names its last item as prev.
   names_last : (before : Option ℕ) (k : ℕ) (xs : List ℕ) (j : ℕ) → AreLinked link_map before (k ∷ xs) (Some j) → prev_of link_map j ≡ last_or (k ∷ xs) None
   names_last before k xs j s =
       let last = last_or-filled (k ∷ xs) k (inl refl) in
       let on : next_of link_map last.0 ≡ Some j = AreLinked-last link_map before (k ∷ xs) (Some j) last.0 s (IsMember-filled (k ∷ xs) k (inl refl)) (last.1 None) in
       (agrees.both last.0 j).0 on ∙ sym (last.1 None)
 
-  -- Follows next from k, with xs passed and j to come, for at most `left` steps.
   onward : (left : ℕ) (before : Option ℕ) (k : ℕ) (xs : List ℕ) (j : ℕ) → AreLinked link_map before (k ∷ xs) (Some j) → (IsMember xs k → ⊥) → (j ≢ k)
       → slots < left + length (k ∷ xs) → Ending link_map before k
   onward zero before k xs j s apart differs more =
@@ -67,7 +64,6 @@ module _ (link_map : LinkMap) (slots : ℕ) (agrees : IsWellLinked link_map) (wi
       by_next None n on = ends (xs ++ j ∷ []) (stored None n)
       by_next (Some m) n on = by_test m n (ℕ_discrete m k) on
 
-  -- Follows next from a valid index.
   on_from : (k : ℕ) → HasLink link_map k → Ending link_map (prev_of link_map k) k
   on_from k valid = by_next (next_of link_map k) refl
     where
@@ -82,7 +78,6 @@ module _ (link_map : LinkMap) (slots : ℕ) (agrees : IsWellLinked link_map) (wi
       by_next None n = ends [] (stored None n)
       by_next (Some m) n = by_test m n (ℕ_discrete m k)
 
-  -- Follows prev from a list with nothing after it, for at most `left` steps.
   backward : (left : ℕ) (before : Option ℕ) (x : ℕ) (xs : List ℕ) (k : ℕ) → AreLinked link_map before (x ∷ xs) None → IsMember (x ∷ xs) k → slots < left + length (x ∷ xs) → Beginning link_map k
   backward left None x xs k s h more = begins (x ∷ xs) s h
   backward zero (Some j) x xs k s h more =
@@ -95,7 +90,6 @@ module _ (link_map : LinkMap) (slots : ℕ) (agrees : IsWellLinked link_map) (wi
       before : link_map j ≡ Some (link (prev_of link_map j) (Some x))
       before = reports_both link_map j (prev_of link_map j) (Some x) (next_valid link_map j x on) refl on
 
-  -- Each valid index is in a chain.
   pub has_chain : (k : ℕ) → HasLink link_map k → ChainOf link_map k
   has_chain k valid = by_ending (on_from k valid)
     where
@@ -116,7 +110,6 @@ module _ (link_map : LinkMap) (slots : ℕ) (agrees : IsWellLinked link_map) (wi
   data WrittenFrom (k : ℕ) : Type 0 where
     written_from : (c : Chain) → IsChain link_map c → IsMember (items c) k → StartsAtLeast c → WrittenFrom k
 
-  -- The chain with least index k, written from k if cyclic.
   from_least : (k : ℕ) → ChainOf link_map k → ((c : Chain) (y : ℕ) → IsChain link_map c → IsMember (items c) k → IsMember (items c) y → k ≤ y) → WrittenFrom k
   from_least k (stored_in (linear xs) h m) least = written_from (linear xs) h m tt
   from_least k (stored_in (cyclic xs) h m) least =
@@ -133,7 +126,6 @@ module _ (link_map : LinkMap) (slots : ℕ) (agrees : IsWellLinked link_map) (wi
     all : (i : ℕ) → HasLink link_map i → IsMember (all_items done) i ⊎ IsMember (all_items chains) i
     ascends : IsSortedByLeast chains
 
-  -- Adds a chain before the others.
   with_chain : (k : ℕ) (done : List Chain) (c : Chain) → IsChain link_map c → IsMember (items c) k → StartsAtLeast c
       → ((i : ℕ) → HasLink link_map i → i < k → IsMember (all_items done) i) → ((y : ℕ) → IsMember (items c) y → IsMember (all_items done) y → ⊥)
       → OtherChains (c ∷ done) → OtherChains done
@@ -169,7 +161,6 @@ module _ (link_map : LinkMap) (slots : ℕ) (agrees : IsWellLinked link_map) (wi
           let other : (k ≡ y) → ⊥ = λ (e : k ≡ y). more.apart y n (IsMember-left (items c) (all_items done) y (subst (IsMember (items c)) e m)) in
           omega arith
 
-  -- The chains of indexes from k on, not among those done.
   others : (left k : ℕ) (done : List Chain) → k + left ≡ suc slots → ((c : Chain) → HasChain done c → IsChain link_map c)
       → ((i : ℕ) → HasLink link_map i → i < k → IsMember (all_items done) i) → OtherChains done
   others zero k done e each below = record {
@@ -227,7 +218,6 @@ module _ (link_map : LinkMap) (slots : ℕ) (agrees : IsWellLinked link_map) (wi
       by_valid None is same more = same (split (IsMember (all_items done)) below (λ (v : HasLink link_map k). let f = v.links in absurd (cc)))
       by_valid (Some l) is same more = by_done (reports_valid link_map k l is) (IsMember-or_not (all_items done) k) same more
 
-  -- The arena has chains, in order.
   pub has_chains : (chains : List Chain) × AreChains link_map chains × IsInOrder chains
   has_chains =
       let all = others slots 1 [] (omega arith) (λ c n. absurd n) none_before in (

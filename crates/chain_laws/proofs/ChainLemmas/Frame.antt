@@ -18,11 +18,9 @@ use Rattle.chain_laws.proofs.InsertionLemmas.Pairs.{inserted_agrees, inserted_in
 use Rattle.chain_laws.proofs.InsertionLemmas.Chains.{HasIndex-apart, inserted_inserts}
 use Rattle.chain_laws.proofs.ChainLemmas.MemberLaws.{free_is_in_no_chain, neighbors_share_a_chain}
 
--- A chain stays if its links keep their interlinks.
 pub same_links_keep_a_chain : SameLinksKeepAChain
 same_links_keep_a_chain old new c same is = IsChain-frame old new c (λ i has. sym (same i has)) is
 
--- A chain without a lacks what follows a.
 absent_next : (link_map : LinkMap) (c : Chain) (a : ℕ) → IsWellLinked link_map → IsChain link_map c → (IsMember (items c) a → ⊥) → HasIndex c (next_of link_map a) → ⊥
 absent_next link_map c a agrees is absent = at (next_of link_map a) refl
   where
@@ -30,7 +28,6 @@ absent_next link_map c a agrees is absent = at (next_of link_map a) refl
     at None next has = has
     at (Some j) next has = absent ((neighbors_share_a_chain link_map c a j agrees next is).1 has)
 
--- A chain without b lacks what precedes b.
 absent_prev : (link_map : LinkMap) (c : Chain) (b : ℕ) → IsWellLinked link_map → IsChain link_map c → (IsMember (items c) b → ⊥) → HasIndex c (prev_of link_map b) → ⊥
 absent_prev link_map c b agrees is absent = at (prev_of link_map b) refl
   where
@@ -39,7 +36,6 @@ absent_prev link_map c b agrees is absent = at (prev_of link_map b) refl
     at (Some j) prev has = absent ((neighbors_share_a_chain link_map c j b agrees ((agrees.both j b).1 prev) is).0 has)
 
 module _ {P I : Type 0} (place : P → ℕ) (number : I → ℕ) (link_map : LinkMap) where
-  -- A chain without the links of a kind lacks both links beside the new one.
   absent_beside : (kind : InsertKind P I) (q : ℕ) (c : Chain) → IsWellLinked link_map → IsChain link_map c → (IsMember (items c) q → ⊥) → IsDisjointFrom c (links_named place number kind)
       → (HasIndex c (link_before place number link_map kind q) → ⊥) × (HasIndex c (link_after place number link_map kind q) → ⊥)
   absent_beside Disconnected q c agrees is outside absent = (λ h. h, λ h. h)
@@ -57,14 +53,12 @@ module _ {P I : Type 0} (place : P → ℕ) (number : I → ℕ) (link_map : Lin
   absent_beside (Bridge a b) q c agrees is outside absent = (absent.0, absent.1.0)
   absent_beside (BridgeInx a b) q c agrees is outside absent = (absent.0, absent.1.0)
 
--- An insertion keeps a chain without the links that its kind names.
 pub insertion_keeps_others : (P I : Type 0) → InsertionKeepsOthers P I
 insertion_keeps_others P I place number old new kind q agrees free inserts c absent is =
     let outside = free_is_in_no_chain old c q free is in
     let beside = absent_beside place number old kind q c agrees is outside absent in
     (inserts.rest c outside beside.0 beside.1).0 is
 
--- A chain without the new link lacks its neighbors, so it existed before.
 pub insertion_makes_no_others : InsertionMakesNoOthers
 insertion_makes_no_others link_map q u v agrees free position c outside is =
     ((inserted_inserts link_map q u v free).rest c outside (before u refl) (after v refl)).1 is
@@ -83,24 +77,20 @@ insertion_makes_no_others link_map q u v agrees free position c outside is =
     after None at_v has = has
     after (Some j) at_v has = outside ((neighbors_share_a_chain (with_insertion link_map q u v) c q j agree ((inserts.pairs q j).1 (inr (inr (refl, at_v)))) is).1 has)
 
--- A new lone link keeps every chain, since chains have no free index.
 pub lone_keeps_each : LoneKeepsEach
 lone_keeps_each old new q free adds c is = (adds.rest c (free_is_in_no_chain old c q free is)).0 is
 
--- A cut keeps a chain without one of the two neighbors.
 pub cut_keeps_others : CutKeepsOthers
 cut_keeps_others old new a b agrees pair cuts c absent is =
     let both = neighbors_share_a_chain old c a b agrees pair is in
     ⊎_elim (λ no_a. (cuts.rest c no_a (λ h. no_a (both.1 h))).0 is) (λ no_b. (cuts.rest c (λ h. no_b (both.0 h)) no_b).0 is) absent
 
--- A chain without one of two joined links existed before, as a cut shows.
 pub join_makes_no_others : JoinMakesNoOthers
 join_makes_no_others link_map a b agrees ends c absent is =
     let restored = cut_of_join link_map a b agrees ends in
     subst (λ (s : LinkMap). IsChain s c) restored.1
     (cut_keeps_others (with_join link_map a b) (without_pair (with_join link_map a b) a b) a b (joined_agrees link_map a b agrees ends) restored.0 (cut_cuts (with_join link_map a b) a b) c absent is)
 
--- A chain without the links that a removed link named existed before.
 pub removal_makes_no_others : RemovalMakesNoOthers
 removal_makes_no_others link_map i c no_prev no_next is =
     let left = (IsChain-linked (without_link link_map i) (prev_of link_map i) (next_of link_map i) c (HasIndex-apart c (prev_of link_map i) no_prev) (HasIndex-apart c (next_of link_map i) no_next)).1 is in

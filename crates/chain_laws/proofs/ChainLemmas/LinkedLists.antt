@@ -7,19 +7,15 @@ use Rattle.chain_laws.proofs.ListLemmas.Members.{IsMember-written, first_or-appe
 abbrev pub link : Option ℕ → Option ℕ → Interlinks
 link before after = record { prev = before; next = after }
 
--- An index with interlinks is valid.
 pub reports_valid : (link_map : LinkMap) (i : ℕ) (l : Interlinks) → link_map i ≡ Some l → HasLink link_map i
 reports_valid link_map i l e = record { link = l; links = e }
 
--- The next link of an index with given interlinks.
 pub reports_next : (link_map : LinkMap) (i : ℕ) (before after : Option ℕ) → link_map i ≡ Some (link before after) → next_of link_map i ≡ after
 reports_next link_map i before after e = ap next_in e
 
--- The previous link of an index with given interlinks.
 pub reports_prev : (link_map : LinkMap) (i : ℕ) (before after : Option ℕ) → link_map i ≡ Some (link before after) → prev_of link_map i ≡ before
 reports_prev link_map i before after e = ap prev_in e
 
--- An index with a next link is valid.
 pub next_valid : (link_map : LinkMap) (i j : ℕ) → next_of link_map i ≡ Some j → HasLink link_map i
 next_valid link_map i j e = by_link (link_map i) refl e
   where
@@ -27,7 +23,6 @@ next_valid link_map i j e = by_link (link_map i) refl e
     by_link None is n = absurd (cc)
     by_link (Some l) is n = record { link = l; links = is }
 
--- An index with a previous link is valid.
 pub prev_valid : (link_map : LinkMap) (i j : ℕ) → prev_of link_map i ≡ Some j → HasLink link_map i
 prev_valid link_map i j e = by_link (link_map i) refl e
   where
@@ -35,7 +30,6 @@ prev_valid link_map i j e = by_link (link_map i) refl e
     by_link None is n = absurd (cc)
     by_link (Some l) is n = record { link = l; links = is }
 
--- Prev and next determine the interlinks of a valid index.
 pub reports_both : (link_map : LinkMap) (i : ℕ) (before after : Option ℕ) → HasLink link_map i → prev_of link_map i ≡ before → next_of link_map i ≡ after → link_map i ≡ Some (link before after)
 reports_both link_map i before after v p n =
     let l : Interlinks = v.link in
@@ -46,7 +40,6 @@ reports_both link_map i before after v p n =
     both : (l : Interlinks) (before after : Option ℕ) → l.prev ≡ before → l.next ≡ after → l ≡ link before after
     both l before after q m = λ i. record { prev = q i; next = m i }
 
--- Two linked lists in succession are one.
 pub AreLinked-append : (link_map : LinkMap) (before : Option ℕ) (xs ys : List ℕ) (after : Option ℕ)
     → AreLinked link_map before xs (first_or ys after) → AreLinked link_map (last_or xs before) ys after → AreLinked link_map before (xs ++ ys) after
 AreLinked-append link_map before [] ys after s t = t
@@ -55,7 +48,6 @@ AreLinked-append link_map before (x ∷ xs) ys after s t = (
   AreLinked-append link_map (Some x) xs ys after s.1 t,
 )
 
--- The left part of a linked list.
 pub AreLinked-left : (link_map : LinkMap) (before : Option ℕ) (xs ys : List ℕ) (after : Option ℕ)
     → AreLinked link_map before (xs ++ ys) after → AreLinked link_map before xs (first_or ys after)
 AreLinked-left link_map before [] ys after s = tt
@@ -64,18 +56,15 @@ AreLinked-left link_map before (x ∷ xs) ys after s = (
   AreLinked-left link_map (Some x) xs ys after s.1,
 )
 
--- The right part of a linked list.
 pub AreLinked-right : (link_map : LinkMap) (before : Option ℕ) (xs ys : List ℕ) (after : Option ℕ)
     → AreLinked link_map before (xs ++ ys) after → AreLinked link_map (last_or xs before) ys after
 AreLinked-right link_map before [] ys after s = s
 AreLinked-right link_map before (x ∷ xs) ys after s = AreLinked-right link_map (Some x) xs ys after s.1
 
--- The interlinks of an item of a linked list.
 pub AreLinked-at : (link_map : LinkMap) (before : Option ℕ) (xs ys : List ℕ) (after : Option ℕ) (i : ℕ)
     → AreLinked link_map before (xs ++ i ∷ ys) after → link_map i ≡ Some (link (last_or xs before) (first_or ys after))
 AreLinked-at link_map before xs ys after i s = (AreLinked-right link_map before xs (i ∷ ys) after s).0
 
--- A list is linked if each item names the items beside it.
 pub AreLinked-each : (link_map : LinkMap) (before : Option ℕ) (xs : List ℕ) (after : Option ℕ)
     → ((left right : List ℕ) (i : ℕ) → xs ≡ left ++ i ∷ right → link_map i ≡ Some (link (last_or left before) (first_or right after))) → AreLinked link_map before xs after
 AreLinked-each link_map before [] after each = tt
@@ -84,26 +73,22 @@ AreLinked-each link_map before (x ∷ xs) after each = (
   AreLinked-each link_map (Some x) xs after (λ left right i e. each (x ∷ left) right i (ap (λ (zs : List ℕ). x ∷ zs) e)),
 )
 
--- A list stays linked if its items keep their interlinks.
 pub AreLinked-frame : (old new : LinkMap) (before : Option ℕ) (xs : List ℕ) (after : Option ℕ)
     → ((i : ℕ) → IsMember xs i → old i ≡ new i) → AreLinked old before xs after → AreLinked new before xs after
 AreLinked-frame old new before [] after same s = tt
 AreLinked-frame old new before (x ∷ xs) after same s =
     (sym (same x (inl refl)) ∙ s.0, AreLinked-frame old new (Some x) xs after (λ i h. same i (inr h)) s.1)
 
--- A chain stays if its links keep their interlinks.
 pub IsChain-frame : (old new : LinkMap) (c : Chain) → ((i : ℕ) → IsMember (items c) i → old i ≡ new i) → IsChain old c → IsChain new c
 IsChain-frame old new (linear xs) same c = (c.0, c.1, AreLinked-frame old new None xs None same c.2)
 IsChain-frame old new (cyclic xs) same c = (c.0, c.1, AreLinked-frame old new (last_or xs None) xs (first_or xs None) same c.2)
 
--- Items of a linked list are valid.
 pub AreLinked-valid : (link_map : LinkMap) (before : Option ℕ) (xs : List ℕ) (after : Option ℕ) (i : ℕ)
     → AreLinked link_map before xs after → IsMember xs i → HasLink link_map i
 AreLinked-valid link_map before [] after i s h = elim h [ ]
 AreLinked-valid link_map before (x ∷ xs) after i s (inl e) = subst (HasLink link_map) e (reports_valid link_map x _ s.0)
 AreLinked-valid link_map before (x ∷ xs) after i s (inr h) = AreLinked-valid link_map (Some x) xs after i s.1 h
 
--- What follows an item of a linked list is an item, or follows the list.
 pub AreLinked-next : (link_map : LinkMap) (before : Option ℕ) (xs : List ℕ) (after : Option ℕ) (i j : ℕ)
     → AreLinked link_map before xs after → IsMember xs i → next_of link_map i ≡ Some j → IsMember xs j ⊎ (after ≡ Some j)
 AreLinked-next link_map before [] after i j s h n = elim h [ ]
@@ -116,7 +101,6 @@ AreLinked-next link_map before (x ∷ xs) after i j s (inr h) n = widen (AreLink
     widen (inl k) = inl (inr k)
     widen (inr a) = inr a
 
--- What precedes an item of a linked list is an item, or precedes the list.
 pub AreLinked-prev : (link_map : LinkMap) (before : Option ℕ) (xs : List ℕ) (after : Option ℕ) (i j : ℕ)
     → AreLinked link_map before xs after → IsMember xs i → prev_of link_map i ≡ Some j → IsMember xs j ⊎ (before ≡ Some j)
 AreLinked-prev link_map before [] after i j s h p = elim h [ ]
@@ -127,14 +111,12 @@ AreLinked-prev link_map before (x ∷ xs) after i j s (inr h) p = widen (AreLink
     widen (inl k) = inl (inr k)
     widen (inr a) = inl (inl (cc))
 
--- With something before the list, each item has a previous link.
 pub AreLinked-prev_some : (link_map : LinkMap) (b : ℕ) (xs : List ℕ) (after : Option ℕ) (i : ℕ)
     → AreLinked link_map (Some b) xs after → IsMember xs i → (j : ℕ) × (prev_of link_map i ≡ Some j)
 AreLinked-prev_some link_map b [] after i s h = elim h [ ]
 AreLinked-prev_some link_map b (x ∷ xs) after i s (inl e) = (b, sym (ap (prev_of link_map) e) ∙ ap prev_in s.0)
 AreLinked-prev_some link_map b (x ∷ xs) after i s (inr h) = AreLinked-prev_some link_map x xs after i s.1 h
 
--- The last item names what follows the list.
 pub AreLinked-last : (link_map : LinkMap) (before : Option ℕ) (xs : List ℕ) (after : Option ℕ) (a : ℕ)
     → AreLinked link_map before xs after → (xs ≢ []) → last_or xs None ≡ Some a → next_of link_map a ≡ after
 AreLinked-last link_map before [] after a s filled e = absurd (filled refl)
@@ -143,7 +125,6 @@ AreLinked-last link_map before (x ∷ []) after a s filled e =
     subst (λ (z : ℕ). next_of link_map z ≡ after) same (ap next_in s.0)
 AreLinked-last link_map before (x ∷ z ∷ xs) after a s filled e = AreLinked-last link_map (Some x) (z ∷ xs) after a s.1 (λ r. cc) e
 
--- With nothing before the list, only the first item has no previous link.
 pub AreLinked-first : (link_map : LinkMap) (xs : List ℕ) (after : Option ℕ) (i : ℕ)
     → AreLinked link_map None xs after → IsMember xs i → prev_of link_map i ≡ None → (others : Option ℕ) → first_or xs others ≡ Some i
 AreLinked-first link_map [] after i s h p others = elim h [ ]
@@ -155,9 +136,6 @@ AreLinked-first link_map (x ∷ xs) after i s (inr h) p others =
     has_no_prev : (j : ℕ) → prev_of link_map i ≡ Some j → ⊥
     has_no_prev j q = cc
 
--- ---- no repetition, from links alone
-
--- A linked list whose first item is not in the rest has no repetition.
 pub apart_no_repetition : (link_map : LinkMap) (before : Option ℕ) (x : ℕ) (xs : List ℕ) (after : Option ℕ)
     → AreLinked link_map before (x ∷ xs) after → (IsMember xs x → ⊥) → AreDistinct (x ∷ xs)
 apart_no_repetition link_map before x [] after s apart = (apart, tt)
@@ -170,7 +148,6 @@ apart_no_repetition link_map before x (y ∷ ys) after s apart =
     again : IsMember ys y → ⊥
     again h = ⊎_elim (λ (k : IsMember ys x). apart (inr k)) (λ (e : Some y ≡ Some x). apart (inl (cc))) (AreLinked-prev link_map (Some y) ys after y x s.1.1 h prev_is)
 
--- A linked list with nothing before it has no repetition.
 pub first_no_repetition : (link_map : LinkMap) (xs : List ℕ) (after : Option ℕ) → AreLinked link_map None xs after → AreDistinct xs
 first_no_repetition link_map [] after s = tt
 first_no_repetition link_map (x ∷ xs) after s = apart_no_repetition link_map None x xs after s again
@@ -181,7 +158,6 @@ first_no_repetition link_map (x ∷ xs) after s = apart_no_repetition link_map N
     again : IsMember xs x → ⊥
     again h = let more = AreLinked-prev_some link_map x xs after x s.1 h in has_no_prev more.0 more.1
 
--- Linked lists with the same first item and nothing after them are equal.
 pub one_onward : (link_map : LinkMap) (before left : Option ℕ) (xs ys : List ℕ)
     → AreLinked link_map before xs None → AreLinked link_map left ys None → first_or xs None ≡ first_or ys None → xs ≡ ys
 one_onward link_map before left [] [] s t e = refl
@@ -193,7 +169,6 @@ one_onward link_map before left (x ∷ xs) (y ∷ ys) s t e =
     let rest = one_onward link_map (Some x) (Some y) xs ys s.1 t.1 n in
     cc (same, rest)
 
--- Linked lists without i, with the same first item and i after them, are equal.
 pub lists_are_one : (link_map : LinkMap) (before left : Option ℕ) (xs ys : List ℕ) (i : ℕ)
     → AreLinked link_map before xs (Some i) → AreLinked link_map left ys (Some i) → (IsMember xs i → ⊥) → (IsMember ys i → ⊥)
     → first_or xs (Some i) ≡ first_or ys (Some i) → xs ≡ ys
@@ -206,14 +181,12 @@ lists_are_one link_map before left (x ∷ xs) (y ∷ ys) i s t a b e =
     let rest = lists_are_one link_map (Some x) (Some y) xs ys i s.1 t.1 (λ h. a (inr h)) (λ h. b (inr h)) n in
     cc (same, rest)
 
--- No list equals a proper end of itself.
 pub no_longer : (left : List ℕ) (x : ℕ) (right : List ℕ) → left ++ x ∷ right ≡ right → ⊥
 no_longer left x right e =
     let l : length (left ++ x ∷ right) ≡ length left + length (x ∷ right) = length-append left (x ∷ right) in
     let m : length (left ++ x ∷ right) ≡ length right = ap (length {A = ℕ}) e in
     omega arith
 
--- A linked list with nothing after it has no repetition.
 pub last_no_repetition : (link_map : LinkMap) (before : Option ℕ) (xs : List ℕ) → AreLinked link_map before xs None → AreDistinct xs
 last_no_repetition link_map before [] s = tt
 last_no_repetition link_map before (x ∷ xs) s = (again, last_no_repetition link_map (Some x) xs s.1)

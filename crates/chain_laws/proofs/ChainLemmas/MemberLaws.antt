@@ -11,28 +11,22 @@ use Rattle.chain_laws.proofs.ChainLemmas.ChainLists.{IsMember-all_items, chain_a
 use Rattle.chain_laws.proofs.InsertionLemmas.Pairs.{free_invalid}
 use Rattle.chain_laws.proofs.ChainLemmas.NeighborPairs.{chain_next, chain_prev, chain_reports}
 
--- Items of a chain are valid.
 pub members_are_links : MembersAreLinks
 members_are_links link_map c i is has = chain_valid link_map c i is has
 
--- A free index is in no chain.
 pub free_is_in_no_chain : FreeIsInNoChain
 free_is_in_no_chain link_map c q free is has = free_invalid link_map q free (chain_valid link_map c q is has)
 
--- An item of a chain names its neighbors there.
 pub members_name_neighbors : MembersNameNeighbors
 members_name_neighbors link_map c i j is has = (chain_next link_map c i j is has, chain_prev link_map c i j is has)
 
--- The interlinks of an item of a linear chain.
 pub places_in_a_line : PlacesInALine
 places_in_a_line link_map x y i is = chain_reports link_map (linear (x ++ i ∷ y)) x y i is refl
 
--- The interlinks of an item of a cyclic chain.
 pub places_in_a_ring : PlacesInARing
 places_in_a_ring link_map x y i is = subst₂ (λ (before after : Option ℕ). link_map i ≡ Some (link (last_or x before) (first_or y after)))
     (last_or-append x (i ∷ y) None) (first_or-append x (i ∷ y) None) (chain_reports link_map (cyclic (x ++ i ∷ y)) x y i is refl)
 
--- In a linear chain, only the last item has no next link, and only the first no previous one.
 pub lines_end : LinesEnd
 lines_end link_map xs i is has = (
   (λ none. ends (IsMember-written xs i has) none, λ last. AreLinked-last link_map None xs None i is.2 is.0 last),
@@ -50,12 +44,10 @@ lines_end link_map xs i is has = (
     starts [] stored first = absurd (cc)
     starts (z ∷ zs) stored first = subst (λ (k : ℕ). prev_of link_map k ≡ None) (one_some first) (ap prev_in stored.0)
 
--- The first item, or else `after`, exists.
 some_first : (xs : List ℕ) (after : ℕ) → (j : ℕ) × (first_or xs (Some after) ≡ Some j)
 some_first [] after = (after, refl)
 some_first (x ∷ xs) after = (x, refl)
 
--- Items of a cyclic chain have a next and a previous link in it.
 pub rings_are_cyclic : RingsAreCyclic
 rings_are_cyclic link_map xs i is has =
     let closed = chain_closed link_map (cyclic xs) is in
@@ -67,17 +59,14 @@ rings_are_cyclic link_map xs i is has =
     let prev = cyclic_prev_some link_map xs i is has in
     ((after.0, next, closed.forward i after.0 has next), (prev.0, prev.1, closed.back i prev.0 has prev.1))
 
--- A chain with one of two neighbors has both.
 pub neighbors_share_a_chain : NeighborsShareAChain
 neighbors_share_a_chain link_map c a b agrees pair is =
     let closed = chain_closed link_map c is in
     (λ has. closed.forward a b has pair, λ has. closed.back b a has ((agrees.both a b).0 pair))
 
--- Chains with a common index have the same items.
 pub chains_share_each : ChainsShareEach
 chains_share_each link_map c other i j is also has too = (chains_share link_map c other i j is also has too, chains_share link_map other c i j also is too has)
 
--- A rotation has the same items.
 pub rotations_have_the_same : RotationsHaveTheSame
 rotations_have_the_same (linear xs) (linear ys) i same = (subst (λ (zs : List ℕ). IsMember zs i) same, subst (λ (zs : List ℕ). IsMember zs i) (sym same))
 rotations_have_the_same (linear xs) (cyclic ys) i same = absurd same
@@ -87,13 +76,11 @@ rotations_have_the_same (cyclic xs) (cyclic ys) i same = (
   λ has. subst (λ (zs : List ℕ). IsMember zs i) (sym same.2) (IsMember-rotated same.1 same.0 i (subst (λ (zs : List ℕ). IsMember zs i) same.3 has)),
 )
 
--- A rotation is as long.
 pub rotations_are_as_long : RotationsAreAsLong
 rotations_are_as_long (linear xs) (linear ys) same = sym (ap length same)
 rotations_are_as_long (linear xs) (cyclic ys) same = absurd same
 rotations_are_as_long (cyclic xs) (linear ys) same = absurd same
 rotations_are_as_long (cyclic xs) (cyclic ys) same = omega (arith, ap length same.2, ap length same.3, length-append same.0 same.1, length-append same.1 same.0)
 
--- The items of all chains are the items of each.
 pub member_in_all : MemberInAll
 member_in_all chains i = (chain_at chains i, λ w. IsMember-all_items chains w.0 i w.1 w.2)

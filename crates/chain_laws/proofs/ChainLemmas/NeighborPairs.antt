@@ -18,19 +18,14 @@ abbrev pub after_last : Chain → Option ℕ
 after_last (linear xs) = None
 after_last (cyclic xs) = first_or xs None
 
--- The items of a chain are linked.
 pub chain_stored : (link_map : LinkMap) (c : Chain) → IsChain link_map c → AreLinked link_map (before_first c) (items c) (after_last c)
 chain_stored link_map (linear xs) h = h.2
 chain_stored link_map (cyclic xs) h = h.2
 
--- Distinct linked items, at least one, are a chain.
 pub stored_chain : (link_map : LinkMap) (c : Chain) → items c ≢ [] → AreDistinct (items c) → AreLinked link_map (before_first c) (items c) (after_last c) → IsChain link_map c
 stored_chain link_map (linear xs) filled once s = (filled, once, s)
 stored_chain link_map (cyclic xs) filled once s = (filled, once, s)
 
--- ---- in a list
-
--- A list with a last item ends in it.
 pub last_or-written : (xs : List ℕ) (a : ℕ) → last_or xs None ≡ Some a → (before : List ℕ) × (xs ≡ before ++ a ∷ [])
 last_or-written [] a e = absurd (cc)
 last_or-written (x ∷ xs) a e =
@@ -38,41 +33,35 @@ last_or-written (x ∷ xs) a e =
     let named : last_or (x ∷ xs) None ≡ Some l.1 = ap (λ (zs : List ℕ). last_or zs None) l.2 ∙ last_or-append l.0 (l.1 ∷ []) None in
     (l.0, l.2 ∙ ap (λ (k : ℕ). l.0 ++ k ∷ []) (one_some (sym named ∙ e)))
 
--- The first item after i is directly after it.
 pub beside_next : (xs before after : List ℕ) (i j : ℕ) → xs ≡ before ++ i ∷ after → first_or after None ≡ Some j → IsBeside xs i j
 beside_next xs before [] i j e n = absurd (cc)
 beside_next xs before (y ∷ ys) i j e n =
     let same : y ≡ j = cc in
     (before, ys, e ∙ ap (λ (z : ℕ). before ++ i ∷ z ∷ ys) same)
 
--- An item directly after i is the first of those after it.
 pub next_beside : (xs before after : List ℕ) (i j : ℕ) → AreDistinct xs → xs ≡ before ++ i ∷ after → IsBeside xs i j
     → (others : Option ℕ) → first_or after others ≡ Some j
 next_beside xs before after i j once e b others =
     let same = written_once before after b.0 (j ∷ b.1) i (subst AreDistinct e once) (sym e ∙ b.2) in
     ap (λ (zs : List ℕ). first_or zs others) same.1
 
--- i is directly after the last item before it.
 pub beside_prev : (xs before after : List ℕ) (i j : ℕ) → xs ≡ before ++ i ∷ after → last_or before None ≡ Some j → IsBeside xs j i
 beside_prev xs before after i j e p =
     let w = last_or-written before j p in
     (w.0, after, e ∙ (ap (λ (zs : List ℕ). zs ++ i ∷ after) w.1 ∙ append_assoc w.0 (j ∷ []) (i ∷ after)))
 
--- An item that i is directly after is the last of those before i.
 pub prev_beside : (xs before after : List ℕ) (i j : ℕ) → AreDistinct xs → xs ≡ before ++ i ∷ after → IsBeside xs j i
     → (others : Option ℕ) → last_or before others ≡ Some j
 prev_beside xs before after i j once e b others =
     let same = written_once before after (b.0 ++ j ∷ []) b.1 i (subst AreDistinct e once) (sym e ∙ (b.2 ∙ sym (append_assoc b.0 (j ∷ []) (i ∷ b.1)))) in
     ap (λ (zs : List ℕ). last_or zs others) same.0 ∙ last_or-append b.0 (j ∷ []) others
 
--- Without repetition, nothing follows the last item.
 pub last_ends : (xs before : List ℕ) (i y : ℕ) (ys : List ℕ) → AreDistinct xs → xs ≡ before ++ i ∷ y ∷ ys → last_or xs None ≡ Some i → ⊥
 last_ends xs before i y ys once e l =
     let parts : AreDistinct (i ∷ y ∷ ys) = AreDistinct-right before (i ∷ y ∷ ys) (subst AreDistinct e once) in
     let end : last_or ys (Some y) ≡ Some i = sym (ap (λ (zs : List ℕ). last_or zs None) e ∙ last_or-append before (i ∷ y ∷ ys) None) ∙ l in
     parts.0 (⊎_elim (λ (h : IsMember ys i). let k : IsMember (y ∷ ys) i = inr h in k) (λ (f : Some y ≡ Some i). let same : y ≡ i = cc in inl same) (last_or-IsMember ys (Some y) i end))
 
--- Without repetition, nothing precedes the first item.
 pub first_begins : (xs : List ℕ) (b : ℕ) (before after : List ℕ) (i : ℕ) → AreDistinct xs → xs ≡ b ∷ before ++ i ∷ after → first_or xs None ≡ Some i → ⊥
 first_begins xs b before after i once e f =
     let parts : AreDistinct (b ∷ before ++ i ∷ after) = subst AreDistinct e once in
@@ -80,15 +69,11 @@ first_begins xs b before after i once e f =
     let same : b ≡ i = cc in
     parts.0 (subst (IsMember (before ++ i ∷ after)) (sym same) (IsMember-middle before after i))
 
--- ---- in a chain
-
--- What comes after i in a chain is its neighbor.
 pub after_neighbors : (c : Chain) (before after : List ℕ) (i j : ℕ) → items c ≡ before ++ i ∷ after → first_or after (after_last c) ≡ Some j → AreNeighborsIn c i j
 after_neighbors (linear xs) before after i j e n = beside_next xs before after i j e n
 after_neighbors (cyclic xs) before [] i j e n = inr (ap (λ (zs : List ℕ). last_or zs None) e ∙ last_or-append before (i ∷ []) None, n)
 after_neighbors (cyclic xs) before (y ∷ ys) i j e n = inl (beside_next xs before (y ∷ ys) i j e n)
 
--- A neighbor after i comes after it in the chain.
 pub neighbors_after : (c : Chain) (before after : List ℕ) (i j : ℕ) → AreDistinct (items c) → items c ≡ before ++ i ∷ after → AreNeighborsIn c i j
     → first_or after (after_last c) ≡ Some j
 neighbors_after (linear xs) before after i j once e b = next_beside xs before after i j once e b None
@@ -96,13 +81,11 @@ neighbors_after (cyclic xs) before after i j once e (inl b) = next_beside xs bef
 neighbors_after (cyclic xs) before [] i j once e (inr w) = w.1
 neighbors_after (cyclic xs) before (y ∷ ys) i j once e (inr w) = absurd (last_ends xs before i y ys once e w.0)
 
--- What comes before i in a chain has it as neighbor.
 pub before_neighbors : (c : Chain) (before after : List ℕ) (i j : ℕ) → items c ≡ before ++ i ∷ after → last_or before (before_first c) ≡ Some j → AreNeighborsIn c j i
 before_neighbors (linear xs) before after i j e p = beside_prev xs before after i j e p
 before_neighbors (cyclic xs) [] after i j e p = inr (p, ap (λ (zs : List ℕ). first_or zs None) e)
 before_neighbors (cyclic xs) (b ∷ before) after i j e p = inl (beside_prev xs (b ∷ before) after i j e p)
 
--- What has i as neighbor comes before it in the chain.
 pub neighbors_before : (c : Chain) (before after : List ℕ) (i j : ℕ) → AreDistinct (items c) → items c ≡ before ++ i ∷ after → AreNeighborsIn c j i
     → last_or before (before_first c) ≡ Some j
 neighbors_before (linear xs) before after i j once e b = prev_beside xs before after i j once e b None
@@ -110,14 +93,12 @@ neighbors_before (cyclic xs) before after i j once e (inl b) = prev_beside xs be
 neighbors_before (cyclic xs) [] after i j once e (inr w) = w.0
 neighbors_before (cyclic xs) (b ∷ before) after i j once e (inr w) = absurd (first_begins xs b before after i once e w.1)
 
--- Items beside each other are in the list.
 pub beside_members : (xs : List ℕ) (i j : ℕ) → IsBeside xs i j → IsMember xs i × IsMember xs j
 beside_members xs i j b = (
   subst (λ (zs : List ℕ). IsMember zs i) (sym b.2) (IsMember-middle b.0 (j ∷ b.1) i),
   subst (λ (zs : List ℕ). IsMember zs j) (sym b.2) (IsMember-right b.0 (i ∷ j ∷ b.1) j (inr (inl refl))),
 )
 
--- Neighbors are in the chain.
 pub neighbor_members : (c : Chain) (i j : ℕ) → AreNeighborsIn c i j → IsMember (items c) i × IsMember (items c) j
 neighbor_members (linear xs) i j b = beside_members xs i j b
 neighbor_members (cyclic xs) i j (inl b) = beside_members xs i j b
@@ -126,13 +107,11 @@ neighbor_members (cyclic xs) i j (inr w) = (
   ⊎_elim (λ (h : IsMember xs j). h) (λ (n : None ≡ Some j). absurd (cc)) (first_or-IsMember xs None j w.1),
 )
 
--- The interlinks of an item of a chain.
 pub chain_reports : (link_map : LinkMap) (c : Chain) (before after : List ℕ) (i : ℕ) → IsChain link_map c → items c ≡ before ++ i ∷ after
     → link_map i ≡ Some (link (last_or before (before_first c)) (first_or after (after_last c)))
 chain_reports link_map c before after i h e =
     AreLinked-at link_map (before_first c) before after (after_last c) i (subst (λ (zs : List ℕ). AreLinked link_map (before_first c) zs (after_last c)) e (chain_stored link_map c h))
 
--- An item of a chain names its next neighbor there and no other.
 pub chain_next : (link_map : LinkMap) (c : Chain) (i j : ℕ) → IsChain link_map c → IsMember (items c) i → (next_of link_map i ≡ Some j) ↔ AreNeighborsIn c i j
 chain_next link_map c i j h m =
     let w = IsMember-written (items c) i m in
@@ -141,7 +120,6 @@ chain_next link_map c i j h m =
       (λ n. links ∙ neighbors_after c w.0 w.1 i j (chain_once link_map c h) w.2 n),
     )
 
--- An item of a chain names its previous neighbor there and no other.
 pub chain_prev : (link_map : LinkMap) (c : Chain) (i j : ℕ) → IsChain link_map c → IsMember (items c) i → (prev_of link_map i ≡ Some j) ↔ AreNeighborsIn c j i
 chain_prev link_map c i j h m =
     let w = IsMember-written (items c) i m in
@@ -150,9 +128,6 @@ chain_prev link_map c i j h m =
       (λ n. links ∙ neighbors_before c w.0 w.1 i j (chain_once link_map c h) w.2 n),
     )
 
--- ---- in the arena
-
--- The chains of an arena partition its links.
 pub partitions : (link_map : LinkMap) (chains : List Chain) → AreChains link_map chains → Partition link_map chains
 partitions link_map chains are = record {
   filled = λ c m. chain_filled link_map c (are.each c m);
@@ -160,7 +135,6 @@ partitions link_map chains are = record {
   valid = λ i. (are.all i, all_items_valid link_map chains i are.each);
 }
 
--- The chains of an arena have its interlinks.
 pub interlinks : (link_map : LinkMap) (chains : List Chain) → AreChains link_map chains → HasInterlinks link_map chains
 interlinks link_map chains are = record {
   next = λ a b. (
@@ -173,13 +147,11 @@ interlinks link_map chains are = record {
   );
 }
 
--- Options with the same value, if any, are equal.
 pub same_named : (o p : Option ℕ) → ((j : ℕ) → (o ≡ Some j) ↔ (p ≡ Some j)) → o ≡ p
 same_named None None same = refl
 same_named None (Some j) same = (same j).1 refl
 same_named (Some j) p same = sym ((same j).0 refl)
 
--- A partition that has the interlinks is the chains of the arena.
 pub chains_from_pairs : (link_map : LinkMap) (chains : List Chain) → Partition link_map chains → HasInterlinks link_map chains → AreChains link_map chains
 chains_from_pairs link_map chains partition pairs = record {
   each = λ c m. stored_chain link_map c (partition.filled c m) (once_each chains c partition.once m)
@@ -220,16 +192,13 @@ chains_from_pairs link_map chains partition pairs = record {
         (same_named (prev_of link_map i) (last_or left (before_first c)) (prev_is c m left right i e))
         (same_named (next_of link_map i) (first_or right (after_last c)) (next_is c m left right i e))
 
--- An arena with the neighbor pairs of chains as interlinks is well linked.
 pub agrees_from_pairs : (link_map : LinkMap) (chains : List Chain) → HasInterlinks link_map chains → IsWellLinked link_map
 agrees_from_pairs link_map chains pairs = record {
   both = λ i j. ((λ e. (pairs.prev i j).1 ((pairs.next i j).0 e)), (λ e. (pairs.next i j).1 ((pairs.prev i j).0 e)));
 }
 
--- An arena with chains is well linked.
 pub agrees_from_chains : (link_map : LinkMap) (chains : List Chain) → AreChains link_map chains → IsWellLinked link_map
 agrees_from_chains link_map chains are = agrees_from_pairs link_map chains (interlinks link_map chains are)
 
--- Chains match an arena by items exactly if they do by neighbor pairs.
 pub chains_by_pairs : (link_map : LinkMap) (chains : List Chain) → AreChains link_map chains ↔ (Partition link_map chains × HasInterlinks link_map chains)
 chains_by_pairs link_map chains = ((λ are. (partitions link_map chains are, interlinks link_map chains are)), (λ both. chains_from_pairs link_map chains both.0 both.1))

@@ -9,7 +9,6 @@ use Rattle.chain_laws.proofs.ChainLemmas.ChainLists.{chain_at}
 use Rattle.chain_laws.proofs.ChainLemmas.Existence.{has_chains}
 use Rattle.chain_laws.proofs.ChainLemmas.NeighborPairs.{partitions, interlinks, chains_from_pairs}
 
--- A well-linked arena has chains by neighbor pairs.
 pub the_chains : (link_map : LinkMap) (slots : ℕ) → IsWellLinked link_map → HasLinksWithin link_map slots → (chains : List Chain) × AreTheChains link_map chains
 the_chains link_map slots agrees within =
     let all = has_chains link_map slots agrees within in
@@ -22,7 +21,6 @@ record Ordered (link_map : LinkMap) (chains : List Chain) : Type 0 where
   once : AreDistinct (all_items chains)
   ascends : IsSortedByLeast chains
 
--- The rest of a list in order is in order.
 rest_ordered : (link_map : LinkMap) (c : Chain) (chains : List Chain) → Ordered link_map (c ∷ chains) → Ordered link_map chains
 rest_ordered link_map c chains o = record {
   each = λ d m. o.each d (inr m);
@@ -31,7 +29,6 @@ rest_ordered link_map c chains o = record {
   ascends = o.ascends.1;
 }
 
--- Lists in order with the same items have the same first chain.
 same_first : (link_map : LinkMap) (c d : Chain) (chains others : List Chain) → Ordered link_map (c ∷ chains) → Ordered link_map (d ∷ others)
     → ((i : ℕ) → IsMember (all_items (c ∷ chains)) i → IsMember (all_items (d ∷ others)) i) → ((i : ℕ) → IsMember (all_items (d ∷ others)) i → IsMember (all_items (c ∷ chains)) i) → c ≡ d
 same_first link_map c d chains others o p there back =
@@ -55,20 +52,17 @@ same_first link_map c d chains others o p there back =
         let above : low < least = o.ascends.0.2 least k in
         absurd (omega arith)
 
--- Removing a common first chain keeps the items of one list among those of another.
 rest_there : (c : Chain) (chains others : List Chain) → AreDistinct (all_items (c ∷ chains))
     → ((i : ℕ) → IsMember (all_items (c ∷ chains)) i → IsMember (all_items (c ∷ others)) i) → (i : ℕ) → IsMember (all_items chains) i → IsMember (all_items others) i
 rest_there c chains others once there i h =
     ⊎_elim (λ (k : IsMember (items c) i). absurd (AreDistinct-apart (items c) (all_items chains) i once k h)) (λ (k : IsMember (all_items others) i). k)
     (IsMember-parts (items c) (all_items others) i (there i (IsMember-right (items c) (all_items chains) i h)))
 
--- A chain is not empty.
 no_empty : (link_map : LinkMap) (c : Chain) (chains : List Chain) → IsChain link_map c → ((i : ℕ) → IsMember (all_items (c ∷ chains)) i → ⊥) → ⊥
 no_empty link_map c chains h none =
     let x = filled-IsMember (items c) (chain_filled link_map c h) in
     none x.0 (IsMember-left (items c) (all_items chains) x.0 x.1)
 
--- Lists of chains in order with the same items are equal.
 same_order : (link_map : LinkMap) (chains others : List Chain) → Ordered link_map chains → Ordered link_map others
     → ((i : ℕ) → IsMember (all_items chains) i → IsMember (all_items others) i) → ((i : ℕ) → IsMember (all_items others) i → IsMember (all_items chains) i) → chains ≡ others
 same_order link_map [] [] o p there back = refl
@@ -83,7 +77,6 @@ same_order link_map (c ∷ chains) (d ∷ others) o p there back =
     (rest_there c chains others o.once there_c) (rest_there c others chains once_c back_c) in
     cc (first, rest)
 
--- The chains of an arena are in order.
 ordered : (link_map : LinkMap) (chains : List Chain) → AreTheChains link_map chains → Ordered link_map chains
 ordered link_map chains are = record {
   each = (chains_from_pairs link_map chains are.partition are.interlinks).each;
@@ -92,20 +85,17 @@ ordered link_map chains are = record {
   ascends = are.order.ascends;
 }
 
--- An arena has no two lists of chains in order.
 pub no_others : (link_map : LinkMap) (chains others : List Chain) → AreTheChains link_map chains → AreTheChains link_map others → chains ≡ others
 no_others link_map chains others are also =
     same_order link_map chains others (ordered link_map chains are) (ordered link_map others also)
     (λ i h. (also.partition.valid i).0 ((are.partition.valid i).1 h)) (λ i h. (are.partition.valid i).0 ((also.partition.valid i).1 h))
 
--- A chain written from its least index is among all chains so written.
 pub is_among : (link_map : LinkMap) (chains : List Chain) (c : Chain) → AreChains link_map chains → AllStartAtLeast chains → IsChain link_map c → StartsAtLeast c → HasChain chains c
 is_among link_map chains c are written h w =
     let x = filled-IsMember (items c) (chain_filled link_map c h) in
     let at = chain_at chains x.0 (are.all x.0 (chain_valid link_map c x.0 h x.1)) in
     subst (HasChain chains) (one_chain link_map at.0 c x.0 (are.each at.0 at.1) h (written at.0 at.1) w at.2 x.1) at.1
 
--- Lists of all chains, from least indexes, have the same members.
 pub same_members : (link_map : LinkMap) (chains others : List Chain) → AreChains link_map chains → AreChains link_map others → AllStartAtLeast chains → AllStartAtLeast others
     → (c : Chain) → HasChain chains c ↔ HasChain others c
 same_members link_map chains others are also written too c = (
@@ -113,7 +103,6 @@ same_members link_map chains others are also written too c = (
   (λ m. is_among link_map chains c are written (also.each c m) (too c m)),
 )
 
--- Lists of all chains have the same members up to rotation.
 pub same_rotated : (link_map : LinkMap) (chains others : List Chain) → AreChains link_map chains → AreChains link_map others
     → (c : Chain) → HasChain chains c → (other : Chain) × HasChain others other × IsRotation c other
 same_rotated link_map chains others are also c m =
@@ -121,18 +110,15 @@ same_rotated link_map chains others are also c m =
     let at = chain_at others x.0 (also.all x.0 (chain_valid link_map c x.0 (are.each c m) x.1)) in
     (at.0, at.1, one_rotated link_map x.0 c at.0 (are.each c m) (also.each at.0 at.1) x.1 at.2)
 
--- Each valid index is in a chain.
 pub chain_of_each : (link_map : LinkMap) (slots i : ℕ) → IsWellLinked link_map → HasLinksWithin link_map slots → HasLink link_map i → (c : Chain) × IsChainOf link_map i c
 chain_of_each link_map slots i agrees within valid =
     let all = has_chains link_map slots agrees within in
     let at = chain_at all.0 i (all.1.all i valid) in
     (at.0, record { chain = all.1.each at.0 at.1; written = all.2.written at.0 at.1; has = at.2 })
 
--- No index is in two chains.
 pub no_other_of_each : (link_map : LinkMap) (i : ℕ) (c other : Chain) → IsChainOf link_map i c → IsChainOf link_map i other → c ≡ other
 no_other_of_each link_map i c other s t = one_chain link_map c other i s.chain t.chain s.written t.written s.has t.has
 
--- A well-linked arena has exactly one set of chains.
 pub one_set : (link_map : LinkMap) (slots : ℕ) → IsWellLinked link_map → HasLinksWithin link_map slots → HasOneSetOfChains link_map
 one_set link_map slots agrees within =
     let is = the_chains link_map slots agrees within in

@@ -6,7 +6,6 @@ use Rattle.chain_laws.proofs.ListLemmas.Members.{IsMember-written, IsMember-rota
 use Rattle.chain_laws.proofs.ChainLemmas.LinkedLists.{AreLinked-left, AreLinked-right, AreLinked-append}
 use Rattle.chain_laws.proofs.ChainLemmas.Uniqueness.{chains_share, one_cyclic, one_linear, not_both}
 
--- The two parts of a cyclic linked list may be swapped.
 pub AreLinked-rotated : (link_map : LinkMap) (x : ℕ) (xs : List ℕ) (y : ℕ) (ys : List ℕ)
     → AreLinked link_map (last_or (x ∷ xs ++ y ∷ ys) None) (x ∷ xs ++ y ∷ ys) (Some x)
     → AreLinked link_map (last_or (y ∷ ys ++ x ∷ xs) None) (y ∷ ys ++ x ∷ xs) (Some y)
@@ -19,7 +18,6 @@ AreLinked-rotated link_map x xs y ys s =
     (subst (λ (o : Option ℕ). AreLinked link_map o (y ∷ ys) (Some x)) right_end right)
     (subst (λ (o : Option ℕ). AreLinked link_map o (x ∷ xs) (Some y)) left_end left)
 
--- A cyclic chain may be written from its second part on.
 pub rotated : (link_map : LinkMap) (xs ys : List ℕ) → IsChain link_map (cyclic (xs ++ ys)) → IsChain link_map (cyclic (ys ++ xs))
 rotated link_map [] ys h = subst (λ (zs : List ℕ). IsChain link_map (cyclic zs)) (sym (append-nil ys)) h
 rotated link_map (x ∷ xs) [] h = subst (λ (zs : List ℕ). IsChain link_map (cyclic zs)) (append-nil (x ∷ xs)) h
@@ -29,7 +27,6 @@ rotated link_map (x ∷ xs) (y ∷ ys) h = (
   AreLinked-rotated link_map x xs y ys h.2,
 )
 
--- A cyclic chain may be written from any of its links.
 pub rotated_to : (link_map : LinkMap) (xs : List ℕ) (i : ℕ) → IsChain link_map (cyclic xs) → IsMember xs i
     → (rest : List ℕ) × IsChain link_map (cyclic (i ∷ rest)) × ((y : ℕ) → IsMember xs y ↔ IsMember (i ∷ rest) y)
 rotated_to link_map xs i h m =
@@ -46,7 +43,6 @@ rotated_to link_map xs i h m =
       ),
     )
 
--- A rotation of a chain is a chain.
 pub rotations : (link_map : LinkMap) (c other : Chain) → IsChain link_map c → IsRotation c other → IsChain link_map other
 rotations link_map (linear xs) (linear ys) h e = subst (λ (zs : List ℕ). IsChain link_map (linear zs)) e h
 rotations link_map (linear xs) (cyclic ys) h e = absurd e
@@ -55,7 +51,6 @@ rotations link_map (cyclic xs) (cyclic ys) h e =
     let other : IsChain link_map (cyclic (e.1 ++ e.0)) = rotated link_map e.0 e.1 (subst (λ (zs : List ℕ). IsChain link_map (cyclic zs)) e.2 h) in
     subst (λ (zs : List ℕ). IsChain link_map (cyclic zs)) (sym e.3) other
 
--- Cyclic chains with a common index are rotations of each other.
 pub one_ring : (link_map : LinkMap) (xs ys : List ℕ) (i : ℕ) → IsChain link_map (cyclic xs) → IsChain link_map (cyclic ys) → IsMember xs i → IsMember ys i
     → IsRotation (cyclic xs) (cyclic ys)
 one_ring link_map [] ys i h k m n = elim m [ ]
@@ -64,7 +59,6 @@ one_ring link_map (x ∷ xs) ys i h k m n =
     let from : IsChain link_map (cyclic (x ∷ w.1 ++ w.0)) = rotated link_map w.0 (x ∷ w.1) (subst (λ (zs : List ℕ). IsChain link_map (cyclic zs)) w.2 k) in
     (x ∷ w.1, w.0, ap (λ (zs : List ℕ). x ∷ zs) (one_cyclic link_map x xs (w.1 ++ w.0) h from), w.2)
 
--- Chains with a common index are rotations of each other.
 pub one_rotated : (link_map : LinkMap) (i : ℕ) (c other : Chain) → IsChain link_map c → IsChain link_map other → IsMember (items c) i → IsMember (items other) i → IsRotation c other
 one_rotated link_map i (linear xs) (linear ys) h k m n = one_linear link_map xs ys i h k m n
 one_rotated link_map i (linear xs) (cyclic ys) h k m n = not_both link_map xs ys i h k m n

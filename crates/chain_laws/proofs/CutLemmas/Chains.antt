@@ -15,7 +15,6 @@ use Rattle.chain_laws.proofs.ChainLemmas.Existence.{ChainOf, stored_in, has_chai
 use Rattle.chain_laws.proofs.JoinLemmas.Lists.{IsOutside, IsOutside-Some, AreLinked-with_next_at, AreLinked-with_prev_at, AreLinked-next_of_last, AreLinked-prev_of_first, IsChain-linked}
 use Rattle.chain_laws.proofs.ChainLemmas.Determinacy.{NamesChains, settled}
 
--- Both parts of a linear list, cut after the left one, are chains.
 parts_stored : (link_map : LinkMap) (a b : ℕ) (xs y : List ℕ) → xs ≢ [] → last_or xs None ≡ Some a → AreDistinct (xs ++ b ∷ y) → AreLinked link_map None (xs ++ b ∷ y) None
     → IsChain (without_pair link_map a b) (linear xs) × IsChain (without_pair link_map a b) (linear (b ∷ y))
 parts_stored link_map a b xs y filled ends once stored =
@@ -37,14 +36,12 @@ parts_stored link_map a b xs y filled ends once stored =
     b_apart : IsMember xs b → ⊥
     b_apart h = AreDistinct-apart xs (b ∷ y) b once h (inl refl)
 
--- A linear chain becomes two.
 pub cut_two : (link_map : LinkMap) (a b : ℕ) (x y : List ℕ) → IsChain link_map (linear (x ++ a ∷ b ∷ y))
     → IsChain (without_pair link_map a b) (linear (x ++ a ∷ [])) × IsChain (without_pair link_map a b) (linear (b ∷ y))
 cut_two link_map a b x y chain =
     let split : IsChain link_map (linear ((x ++ a ∷ []) ++ b ∷ y)) = subst (λ (zs : List ℕ). IsChain link_map (linear zs)) (sym (append_assoc x (a ∷ []) (b ∷ y))) chain in
     parts_stored link_map a b (x ++ a ∷ []) y (IsMember-filled (x ++ a ∷ []) a (IsMember-middle x [] a)) (last_or-append x (a ∷ []) None) split.1 split.2
 
--- A cyclic chain becomes linear.
 pub cut_one : (link_map : LinkMap) (a b : ℕ) (xs : List ℕ) → IsChain link_map (cyclic xs) → first_or xs None ≡ Some b → last_or xs None ≡ Some a
     → IsChain (without_pair link_map a b) (linear xs)
 cut_one link_map a b [] chain starts ends = absurd (chain.0 refl)
@@ -58,26 +55,21 @@ cut_one link_map a b (x ∷ xs) chain starts ends =
           (AreLinked-prev_of_first (with_next_at link_map (Some a) None) None (last_or xs (Some x)) (x ∷ xs) None chain.1 ended),
     )
 
--- No list has a missing index.
 nowhere_apart : (xs : List ℕ) → IsOutside None xs
 nowhere_apart xs k e h = cc
 
--- A chain with neither index stays.
 cut_rest : (link_map : LinkMap) (a b : ℕ) (c : Chain) → (IsMember (items c) a → ⊥) → (IsMember (items c) b → ⊥) → IsChain link_map c ↔ IsChain (without_pair link_map a b) c
 cut_rest link_map a b c none_a none_b =
     let inner = IsChain-linked link_map (Some a) None c (IsOutside-Some a (items c) none_a) (nowhere_apart (items c)) in
     let outer = IsChain-linked (with_neighbors link_map (Some a) None) None (Some b) c (nowhere_apart (items c)) (IsOutside-Some b (items c) none_b) in
     (λ h. outer.0 (inner.0 h), λ h. inner.1 (outer.1 h))
 
--- A cut cuts the chain of its pair.
 pub cut_cuts : (link_map : LinkMap) (a b : ℕ) → Cuts link_map (without_pair link_map a b) a b
 cut_cuts link_map a b = record { two = cut_two link_map a b; one = cut_one link_map a b; rest = cut_rest link_map a b }
 
--- The chains of a and b after any change with `Cuts`.
 abbrev Parted : LinkMap → ℕ → ℕ → Type 0
 Parted old a b = NamesChains (λ (new : LinkMap). Cuts old new a b) a b
 
--- The case of a cyclic chain, written from b to a.
 parted_ring : (old : LinkMap) (a b : ℕ) (rest : List ℕ) → IsChain old (cyclic (b ∷ rest)) → prev_of old b ≡ Some a → IsMember (b ∷ rest) a → Parted old a b
 parted_ring old a b rest ring before has =
     let ends : last_or (b ∷ rest) None ≡ Some a = sym (reports_prev old b _ _ ring.2.0) ∙ before in
@@ -90,7 +82,6 @@ parted_ring old a b rest ring before has =
       right_stored = λ new cuts. cuts.one (b ∷ rest) ring refl ends;
     }
 
--- The chains of a and b come from the old chain of a.
 parted : (old : LinkMap) (a b : ℕ) → IsWellLinked old → AreNeighbors old a b → ChainOf old a → Parted old a b
 parted old a b agrees pair (stored_in (linear xs) chain has) = let w = IsMember-written xs a has in by w.0 w.1 w.2
   where
@@ -118,7 +109,6 @@ parted old a b agrees pair (stored_in (cyclic xs) chain has) =
     let t = rotated_to old xs b chain (closed.forward a b has pair) in
     parted_ring old a b t.0 t.1 ((agrees.both a b).0 pair) ((t.2 a).0 has)
 
--- `Cuts` gives exactly the chains of the cut.
 pub cut_is_determined : CutIsDetermined
 cut_is_determined old new slots a b agrees within pair cuts =
     settled old new (without_pair old a b) (λ (s : LinkMap). Cuts old s a b) a b (λ s made. made.rest)

@@ -12,24 +12,20 @@ use Rattle.chain_laws.proofs.InterlinkLemmas.Linked.{IsValidAt, IsValidAt-Some, 
 use Rattle.chain_laws.proofs.JoinLemmas.Chains.{next_of-joined, joined_agrees, joined_adds_a_pair}
 use Rattle.chain_laws.proofs.ChainLemmas.Determinacy.{pairs_decide}
 
--- A missing index counts as valid.
 nowhere_valid : (link_map : LinkMap) → IsValidAt link_map None
 nowhere_valid link_map i e = absurd (cc)
 
--- The next link of each index after a cut.
 pub next_of-cut : (link_map : LinkMap) (a b : ℕ) → HasLink link_map a → (j : ℕ) → next_of (without_pair link_map a b) j ≡ altered (next_of link_map) a None j
 next_of-cut link_map a b valid j =
     next_of-linked (with_neighbors link_map (Some a) None) None (Some b) j (nowhere_valid (with_neighbors link_map (Some a) None))
     ∙ next_of-linked link_map (Some a) None j (IsValidAt-Some link_map a valid)
 
--- The previous link of each index after a cut.
 pub prev_of-cut : (link_map : LinkMap) (a b : ℕ) → HasLink link_map b → (j : ℕ) → prev_of (without_pair link_map a b) j ≡ altered (prev_of link_map) b None j
 prev_of-cut link_map a b valid j =
     let ended = with_neighbors link_map (Some a) None in
     prev_of-linked ended None (Some b) j (IsValidAt-Some ended b ((HasLink-linked link_map (Some a) None b).1 valid))
     ∙ ap (λ o. if j == b then None else o) (prev_of-with_next_at link_map (Some a) None j)
 
--- A cut keeps the valid indexes.
 pub HasLink-cut : (link_map : LinkMap) (a b j : ℕ) → HasLink (without_pair link_map a b) j ↔ HasLink link_map j
 HasLink-cut link_map a b j =
     let ended = with_neighbors link_map (Some a) None in
@@ -37,11 +33,9 @@ HasLink-cut link_map a b j =
     let inner = HasLink-linked link_map (Some a) None j in
     (λ v. inner.0 (outer.0 v), λ v. outer.1 (inner.1 v))
 
--- A join keeps the valid indexes.
 HasLink-joined : (link_map : LinkMap) (a b j : ℕ) → HasLink (with_join link_map a b) j ↔ HasLink link_map j
 HasLink-joined link_map a b j = HasLink-linked link_map (Some a) (Some b) j
 
--- A cut keeps the arena well linked.
 pub cut_agrees : (link_map : LinkMap) (a b : ℕ) → IsWellLinked link_map → AreNeighbors link_map a b → IsWellLinked (without_pair link_map a b)
 cut_agrees link_map a b agrees pair =
     let back : prev_of link_map b ≡ Some a = (agrees.both a b).0 pair in
@@ -51,7 +45,6 @@ cut_agrees link_map a b agrees pair =
           (cut_undoes (next_of link_map) (prev_of link_map) a b agrees.both pair);
     }
 
--- A cut removes its pair and no other.
 pub cut_takes_a_pair : (link_map : LinkMap) (a b : ℕ) → AreNeighbors link_map a b → TakesPair link_map (without_pair link_map a b) a b
 cut_takes_a_pair link_map a b pair =
     record {
@@ -70,7 +63,6 @@ cut_takes_a_pair link_map a b pair =
     back i j p (inl s) = absurd (p.1 (s, one_some (sym p.0 ∙ ap (next_of link_map) s ∙ pair)))
     back i j p (inr ne) = after i ∙ altered-other (next_of link_map) a None i ne ∙ p.0
 
--- `TakesPair` with a well-linked result gives exactly the cut.
 pub cut_is_determined_by_pairs : CutIsDeterminedByPairs
 cut_is_determined_by_pairs old new a b agrees agrees_new pair takes =
     let that = cut_takes_a_pair old a b pair in
@@ -78,7 +70,6 @@ cut_is_determined_by_pairs old new a b agrees agrees_new pair takes =
     (λ i. (λ v. (that.links i).1 ((takes.links i).0 v), λ v. (takes.links i).1 ((that.links i).0 v)))
     (λ i j. (λ e. (that.pairs i j).1 ((takes.pairs i j).0 e), λ e. (takes.pairs i j).1 ((that.pairs i j).0 e)))
 
--- After a cut, a ends a chain and b starts one.
 pub cut_ends : (link_map : LinkMap) (a b : ℕ) → IsWellLinked link_map → AreNeighbors link_map a b → AreEndAndStart (without_pair link_map a b) a b
 cut_ends link_map a b agrees pair =
     let valid_a = next_valid link_map a b pair in
@@ -90,7 +81,6 @@ cut_ends link_map a b agrees pair =
       start = prev_of-cut link_map a b valid_b b ∙ altered-same (prev_of link_map) b None b refl;
     }
 
--- A cut and then a join keep the neighbor pairs.
 join_of_cut_pairs : (link_map : LinkMap) (a b : ℕ) → IsWellLinked link_map → AreNeighbors link_map a b → (i j : ℕ)
     → AreNeighbors (with_join (without_pair link_map a b) a b) i j ↔ AreNeighbors link_map i j
 join_of_cut_pairs link_map a b agrees pair i j =
@@ -110,7 +100,6 @@ join_of_cut_pairs link_map a b agrees pair i j =
     back e (inl s) = inr (s, one_some (sym e ∙ ap (next_of link_map) s ∙ pair))
     back e (inr ne) = inl ((takes.pairs i j).1 (e, λ p. ne p.0))
 
--- A cut and then a join restore the arena.
 pub join_of_cut : JoinOfCutRestores
 join_of_cut link_map a b agrees pair =
     let ends = cut_ends link_map a b agrees pair in
@@ -122,11 +111,9 @@ join_of_cut link_map a b agrees pair =
           (join_of_cut_pairs link_map a b agrees pair),
     )
 
--- Joined links are neighbors.
 pub joined_neighbors : (link_map : LinkMap) (a b : ℕ) → HasLink link_map a → AreNeighbors (with_join link_map a b) a b
 joined_neighbors link_map a b valid = next_of-joined link_map a b valid a ∙ altered-same (next_of link_map) a (Some b) a refl
 
--- A join and then a cut keep the neighbor pairs.
 cut_of_join_pairs : (link_map : LinkMap) (a b : ℕ) → AreEndAndStart link_map a b → (i j : ℕ)
     → AreNeighbors (without_pair (with_join link_map a b) a b) i j ↔ AreNeighbors link_map i j
 cut_of_join_pairs link_map a b ends i j =
@@ -148,7 +135,6 @@ cut_of_join_pairs link_map a b ends i j =
     there : AreNeighbors (with_join link_map a b) i j × ((i ≡ a) × (j ≡ b) → ⊥) → AreNeighbors link_map i j
     there p = by ((adds.pairs i j).0 p.0) p.1
 
--- A join and then a cut restore the arena.
 pub cut_of_join : CutOfJoinRestores
 cut_of_join link_map a b agrees ends =
     let pair = joined_neighbors link_map a b ends.valid_end in

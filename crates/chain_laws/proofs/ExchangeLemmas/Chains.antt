@@ -13,19 +13,15 @@ use Rattle.chain_laws.proofs.ChainLemmas.NeighborPairs.{before_first, after_last
 use Rattle.chain_laws.proofs.ExchangeLemmas.Swaps.{swapped, swapped_in, swapped-first, swapped-second, swapped-other}
 use Rattle.chain_laws.proofs.ExchangeLemmas.Pairs.{AreExchanged, are_exchanged_back, are_exchanged_mutually, exchanged_are, exchanged_with_itself}
 
--- The list has neither p nor q.
 abbrev HasNeither : List ℕ → ℕ → ℕ → Type 0
 HasNeither xs p q = (IsMember xs p → ⊥) × (IsMember xs q → ⊥)
 
--- In a distinct list, r is not on either side of itself.
 around_once : (x y : List ℕ) (r : ℕ) → AreDistinct (x ++ r ∷ y) → (IsMember x r → ⊥) × (IsMember y r → ⊥)
 around_once x y r once = (λ h. AreDistinct-apart x (r ∷ y) r once h (inl refl), (AreDistinct-right x (r ∷ y) once).0)
 
--- Lists equal up to an item have the same first.
 first_alike : (x y z : List ℕ) (r : ℕ) (after others : Option ℕ) → first_or (x ++ r ∷ y) after ≡ first_or (x ++ r ∷ z) others
 first_alike x y z r after others = first_or-append x (r ∷ y) after ∙ sym (first_or-append x (r ∷ z) others)
 
--- A swap commutes with the last item of a list with neither.
 last_or-swapped : (p q : ℕ) (xs : List ℕ) (before : Option ℕ) → HasNeither xs p q → swapped_in p q (last_or xs before) ≡ last_or xs (swapped_in p q before)
 last_or-swapped p q [] before neither = refl
 last_or-swapped p q (x ∷ xs) before neither =
@@ -33,14 +29,12 @@ last_or-swapped p q (x ∷ xs) before neither =
     ∙ ap (λ (k : ℕ). last_or xs (Some k)) (swapped-other p q x (λ e. neither.0 (inl e)) (λ e. neither.1 (inl e)))
 
 module _ (old new : LinkMap) (p q : ℕ) (are : AreExchanged old new p q) where
-  -- The interlinks at an index after the exchange.
   reports_exchanged : (i : ℕ) (before after : Option ℕ) → old i ≡ Some (link before after)
       → new i ≡ Some (link (swapped_in p q before) (next_of old (swapped p q i)))
   reports_exchanged i before after e =
       reports_both new i (swapped_in p q before) (next_of old (swapped p q i)) ((are.links i).1 (reports_valid old i (link before after) e))
       (are.back i ∙ ap (swapped_in p q) (reports_prev old i before after e)) (are.forward i)
 
-  -- A list with neither stays linked, with a swap before it.
   AreLinked-neither : (before : Option ℕ) (xs : List ℕ) (after : Option ℕ) → HasNeither xs p q → AreLinked old before xs after
       → AreLinked new (swapped_in p q before) xs after
   AreLinked-neither before [] after neither stored = tt
@@ -52,17 +46,14 @@ module _ (old new : LinkMap) (p q : ℕ) (are : AreExchanged old new p q) where
             (AreLinked-neither (Some x) xs after (λ h. neither.0 (inr h), λ h. neither.1 (inr h)) stored.1),
       )
 
-  -- What followed p follows q.
   AreLinked-after_p : (xs : List ℕ) (after : Option ℕ) → HasNeither xs p q → AreLinked old (Some p) xs after → AreLinked new (Some q) xs after
   AreLinked-after_p xs after neither stored =
       subst (λ (k : ℕ). AreLinked new (Some k) xs after) (swapped-first p q p refl) (AreLinked-neither (Some p) xs after neither stored)
 
-  -- What followed q follows p.
   AreLinked-after_q : (xs : List ℕ) (after : Option ℕ) → HasNeither xs p q → AreLinked old (Some q) xs after → AreLinked new (Some p) xs after
   AreLinked-after_q xs after neither stored =
       subst (λ (k : ℕ). AreLinked new (Some k) xs after) (swapped-second p q q refl) (AreLinked-neither (Some q) xs after neither stored)
 
-  -- p or q, and what follows it.
   AreLinked-onward : (r : ℕ) (before : Option ℕ) (z : List ℕ) (end : Option ℕ) (y : List ℕ) (after : Option ℕ) → AreLinked old before (r ∷ z) end
       → next_of old (swapped p q r) ≡ first_or y after → AreLinked new (Some r) y after → AreLinked new (swapped_in p q before) (r ∷ y) after
   AreLinked-onward r before z end y after stored follows rest = (
@@ -70,7 +61,6 @@ module _ (old new : LinkMap) (p q : ℕ) (are : AreExchanged old new p q) where
     rest,
   )
 
-  -- A list up to p or q, and what follows.
   AreLinked-through : (before : Option ℕ) (x : List ℕ) (r : ℕ) (z : List ℕ) (end : Option ℕ) (y : List ℕ) (after : Option ℕ) → HasNeither x p q
       → AreLinked old before (x ++ r ∷ z) end → next_of old (swapped p q r) ≡ first_or y after → AreLinked new (Some r) y after
       → AreLinked new (swapped_in p q before) (x ++ r ∷ y) after
@@ -80,27 +70,21 @@ module _ (old new : LinkMap) (p q : ℕ) (are : AreExchanged old new p q) where
       (subst (λ (o : Option ℕ). AreLinked new o (r ∷ y) after) (last_or-swapped p q x before neither)
       (AreLinked-onward r (last_or x before) z end y after (AreLinked-right old before x (r ∷ z) end stored) follows rest))
 
-  -- p has the next of q.
   follows_p : (o : Option ℕ) → next_of old q ≡ o → next_of old (swapped p q p) ≡ o
   follows_p o e = ap (next_of old) (swapped-first p q p refl) ∙ e
 
-  -- q has the next of p.
   follows_q : (o : Option ℕ) → next_of old p ≡ o → next_of old (swapped p q q) ≡ o
   follows_q o e = ap (next_of old) (swapped-second p q q refl) ∙ e
 
-  -- The last item of a list after p, moved after q.
   last_after_p : (xs : List ℕ) → HasNeither xs p q → swapped_in p q (last_or xs (Some p)) ≡ last_or xs (Some q)
   last_after_p xs neither = last_or-swapped p q xs (Some p) neither ∙ ap (λ (k : ℕ). last_or xs (Some k)) (swapped-first p q p refl)
 
-  -- The last item of a list after q, moved after p.
   last_after_q : (xs : List ℕ) → HasNeither xs p q → swapped_in p q (last_or xs (Some q)) ≡ last_or xs (Some p)
   last_after_q xs neither = last_or-swapped p q xs (Some q) neither ∙ ap (λ (k : ℕ). last_or xs (Some k)) (swapped-second p q q refl)
 
-  -- A linked list with an item, and nothing around it, is a linear chain.
   linear_chain : (xs : List ℕ) (i : ℕ) → IsMember xs i → AreLinked new None xs None → IsChain new (linear xs)
   linear_chain xs i h stored = (IsMember-filled xs i h, first_no_repetition new xs None stored, stored)
 
-  -- A linear chain becomes a linear and a cyclic one.
   taken_out : (x m y : List ℕ) → IsChain old (linear (x ++ p ∷ (m ++ q ∷ y))) → IsChain new (linear (x ++ p ∷ y)) × IsChain new (cyclic (m ++ q ∷ []))
   taken_out x m y chain = (
     linear_chain (x ++ p ∷ y) p (IsMember-middle x y p)
@@ -145,7 +129,6 @@ module _ (old new : LinkMap) (p q : ℕ) (are : AreExchanged old new p q) where
       not_in_y : HasNeither y p q
       not_in_y = (λ h. p_once.1 (IsMember-right m (q ∷ y) p (inr h)), q_once.1)
 
-  -- A linear and a cyclic chain become one linear chain.
   taken_in : (x y z : List ℕ) → IsChain old (linear (x ++ p ∷ y)) → IsChain old (cyclic (z ++ q ∷ [])) → IsChain new (linear (x ++ p ∷ (z ++ q ∷ y)))
   taken_in x y z left right =
       linear_chain (x ++ p ∷ (z ++ q ∷ y)) p (IsMember-middle x (z ++ q ∷ y) p)
@@ -175,7 +158,6 @@ module _ (old new : LinkMap) (p q : ℕ) (are : AreExchanged old new p q) where
       not_right : IsMember ring p → ⊥
       not_right h = not_both old (x ++ p ∷ y) ring p left right (IsMember-middle x y p) h
 
-  -- Two linear chains exchange what follows p and q.
   two_linear : (x y z w : List ℕ) → IsChain old (linear (x ++ p ∷ y)) → IsChain old (linear (z ++ q ∷ w)) → (IsMember (x ++ p ∷ y) q → ⊥)
       → IsChain new (linear (x ++ p ∷ w)) × IsChain new (linear (z ++ q ∷ y))
   two_linear x y z w left right none = (
@@ -204,7 +186,6 @@ module _ (old new : LinkMap) (p q : ℕ) (are : AreExchanged old new p q) where
       not_right : IsMember (z ++ q ∷ w) p → ⊥
       not_right h = none (chains_share old (linear (z ++ q ∷ w)) (linear (x ++ p ∷ y)) p q right left h (IsMember-middle x y p) (IsMember-middle z w q))
 
-  -- Two cyclic chains become one.
   two_cyclic : (x y : List ℕ) → IsChain old (cyclic (p ∷ x)) → IsChain old (cyclic (q ∷ y)) → (IsMember (p ∷ x) q → ⊥)
       → IsChain new (cyclic (p ∷ y ++ q ∷ x))
   two_cyclic x y left right none =
@@ -241,7 +222,6 @@ module _ (old new : LinkMap) (p q : ℕ) (are : AreExchanged old new p q) where
           (follows_p (first_or (y ++ q ∷ x) (Some p)) (reports_next old q _ _ right.2.0 ∙ sym (first_or-append y (q ∷ x) (Some p))))
           (AreLinked-append new (Some p) y (q ∷ x) (Some p) (AreLinked-after_q y (Some q) not_in_y right.2.1) from_q))
 
-  -- One cyclic chain becomes two.
   one_cyclic : (x y : List ℕ) → IsChain old (cyclic (p ∷ x ++ q ∷ y)) → IsChain new (cyclic (p ∷ y)) × IsChain new (cyclic (q ∷ x))
   one_cyclic x y chain = (
     (IsMember-filled (p ∷ y) p (inl refl), apart_no_repetition new (last_or y (Some p)) p y (Some p) from_p not_in_y.0, from_p),
@@ -276,19 +256,16 @@ module _ (old new : LinkMap) (p q : ℕ) (are : AreExchanged old new p q) where
           (follows_q (first_or x (Some q)) (reports_next old p _ _ chain.2.0 ∙ first_or-append x (q ∷ y) (Some p)))
           (AreLinked-after_p x (Some q) not_in_x (AreLinked-left old (Some p) x (q ∷ y) (Some p) chain.2.1)))
 
-  -- A swap keeps the link before the first of a chain with neither.
   before_neither : (c : Chain) → HasNeither (items c) p q → swapped_in p q (before_first c) ≡ before_first c
   before_neither (linear xs) neither = refl
   before_neither (cyclic xs) neither = last_or-swapped p q xs None neither
 
-  -- A chain with neither is unchanged.
   chain_stays : (c : Chain) → HasNeither (items c) p q → IsChain old c → IsChain new c
   chain_stays c neither chain =
       stored_chain new c (chain_filled old c chain) (chain_once old c chain)
       (subst (λ (o : Option ℕ). AreLinked new o (items c) (after_last c)) (before_neither c neither)
       (AreLinked-neither (before_first c) (items c) (after_last c) neither (chain_stored old c chain)))
 
-  -- The cases for p and q in this order.
   exchanges_in_order : ExchangesInOrder old new p q
   exchanges_in_order =
       record {
@@ -297,7 +274,6 @@ module _ (old new : LinkMap) (p q : ℕ) (are : AreExchanged old new p q) where
             subst (λ (zs : List ℕ). IsChain new (linear zs)) (sym (append_assoc x (p ∷ z) (q ∷ y))) (taken_in x y z left right);
       }
 
--- An exchange exchanges the links after two links.
 pub exchanged_exchanges : ExchangeExchanges
 exchanged_exchanges link_map p q agrees valid_p valid_q =
     let new = with_exchange link_map p q in

@@ -12,15 +12,12 @@ use Rattle.chain_laws.proofs.ChainLemmas.Existence.{ChainOf, stored_in, has_chai
 use Rattle.chain_laws.proofs.ChainLemmas.Determinacy.{NamesChains, settled}
 use Rattle.chain_laws.proofs.ExchangeLemmas.Chains.{exchanged_exchanges}
 
--- An exchange as a predicate on the new arena.
 abbrev Crosses : LinkMap → ℕ → ℕ → LinkMap → Type 0
 Crosses old p q new = Exchanges old new p q
 
--- The chains of p and q after any exchange.
 abbrev Crossed : LinkMap → ℕ → ℕ → Type 0
 Crossed old p q = NamesChains (Crosses old p q) p q
 
--- The order of the two indexes does not matter.
 settles_mutually : (Holds : LinkMap → Type 0) (a b : ℕ) → NamesChains Holds a b → NamesChains Holds b a
 settles_mutually Holds a b settles =
     record {
@@ -32,7 +29,6 @@ settles_mutually Holds a b settles =
       right_stored = settles.left_stored;
     }
 
--- One linear chain, a before b.
 taken_out_settles : (old : LinkMap) (Holds : LinkMap → Type 0) (a b : ℕ) → ((new : LinkMap) → Holds new → ExchangesInOrder old new a b)
     → (x m y : List ℕ) → IsChain old (linear (x ++ a ∷ m ++ b ∷ y)) → NamesChains Holds a b
 taken_out_settles old Holds a b in_order x m y chain =
@@ -45,7 +41,6 @@ taken_out_settles old Holds a b in_order x m y chain =
       right_stored = λ new holds. ((in_order new holds).taken_out x m y chain).1;
     }
 
--- A in a linear chain, b in a cyclic one.
 taken_in_settles : (old : LinkMap) (Holds : LinkMap → Type 0) (a b : ℕ) → ((new : LinkMap) → Holds new → ExchangesInOrder old new a b)
     → (xs ys : List ℕ) → IsChain old (linear xs) → IsChain old (cyclic ys) → IsMember xs a → IsMember ys b → NamesChains Holds a b
 taken_in_settles old Holds a b in_order xs ys left right has_a has_b =
@@ -63,7 +58,6 @@ taken_in_settles old Holds a b in_order xs ys left right has_a has_b =
       right_stored = stored;
     }
 
--- Two linear chains.
 two_linear_settle : (old : LinkMap) (p q : ℕ) (xs ys : List ℕ) → IsChain old (linear xs) → IsChain old (linear ys) → IsMember xs p → IsMember ys q
     → (IsMember xs q → ⊥) → Crossed old p q
 two_linear_settle old p q xs ys left right has_p has_q none =
@@ -82,7 +76,6 @@ two_linear_settle old p q xs ys left right has_p has_q none =
       right_stored = λ new exchanges. (parts new exchanges).1;
     }
 
--- Two cyclic chains.
 two_cyclic_settle : (old : LinkMap) (p q : ℕ) (xs ys : List ℕ) → IsChain old (cyclic xs) → IsChain old (cyclic ys) → IsMember xs p → IsMember ys q
     → (IsMember xs q → ⊥) → Crossed old p q
 two_cyclic_settle old p q xs ys left right has_p has_q none =
@@ -100,7 +93,6 @@ two_cyclic_settle old p q xs ys left right has_p has_q none =
       right_stored = stored;
     }
 
--- A cyclic chain with p and q, written from p.
 written_cyclic : (link_map : LinkMap) (p q : ℕ) (xs : List ℕ) → p ≢ q → IsChain link_map (cyclic xs) → IsMember xs p → IsMember xs q
     → (x : List ℕ) × (y : List ℕ) × IsChain link_map (cyclic (p ∷ x ++ q ∷ y))
 written_cyclic link_map p q xs ne chain has_p has_q = by ((t.2 q).0 has_q)
@@ -112,7 +104,6 @@ written_cyclic link_map p q xs ne chain has_p has_q = by ((t.2 q).0 has_q)
     by (inl e) = absurd (ne e)
     by (inr h) = let w = IsMember-written t.0 q h in (w.0, w.1, subst (λ (zs : List ℕ). IsChain link_map (cyclic (p ∷ zs))) w.2 t.1)
 
--- One cyclic chain.
 one_cyclic_settles : (old : LinkMap) (p q : ℕ) (xs : List ℕ) → p ≢ q → IsChain old (cyclic xs) → IsMember xs p → IsMember xs q → Crossed old p q
 one_cyclic_settles old p q xs ne chain has_p has_q =
     let w = written_cyclic old p q xs ne chain has_p has_q in
@@ -125,7 +116,6 @@ one_cyclic_settles old p q xs ne chain has_p has_q =
       right_stored = λ new exchanges. (exchanges.one_cyclic w.0 w.1 w.2).1;
     }
 
--- One linear chain.
 one_linear_settles : (old : LinkMap) (p q : ℕ) (xs : List ℕ) → p ≢ q → IsChain old (linear xs) → IsMember xs p → IsMember xs q → Crossed old p q
 one_linear_settles old p q xs ne chain has_p has_q = let w = IsMember-written xs p has_p in by w.0 w.1 w.2
   where
@@ -145,7 +135,6 @@ one_linear_settles old p q xs ne chain has_p has_q = let w = IsMember-written xs
             (subst (λ (zs : List ℕ). IsChain old (linear zs))
             (e ∙ ap (λ (zs : List ℕ). before ++ p ∷ zs) v.2 ∙ sym (append_assoc before (p ∷ v.0) (q ∷ v.1))) chain)
 
--- Two different links, in one chain or in two.
 crossed_apart : (old : LinkMap) (p q : ℕ) → p ≢ q → ChainOf old p → ChainOf old q → Crossed old p q
 crossed_apart old p q ne (stored_in (linear xs) left has_p) (stored_in d right has_q) = by d right has_q (IsMember-or_not xs q)
   where
@@ -163,7 +152,6 @@ crossed_apart old p q ne (stored_in (cyclic xs) left has_p) (stored_in d right h
         (taken_in_settles old (Crosses old p q) q p (λ new exchanges. exchanges.in_other_order) ys xs right left has_q has_p)
     by (cyclic ys) right has_q (inr none) = two_cyclic_settle old p q xs ys left right has_p has_q none
 
--- The same link twice.
 crossed_itself : (old : LinkMap) (p q : ℕ) → p ≡ q → ChainOf old p → Crossed old p q
 crossed_itself old p q e (stored_in c chain has) =
     record {
@@ -175,7 +163,6 @@ crossed_itself old p q e (stored_in c chain has) =
       right_stored = λ new exchanges. (exchanges.itself e c).0 chain;
     }
 
--- Any exchange has the chains of `exchanged`.
 pub exchange_is_determined : ExchangeIsDetermined
 exchange_is_determined old new slots p q agrees within valid_p valid_q exchanges =
     let of_p = has_chain old slots agrees within p valid_p in
@@ -184,7 +171,6 @@ exchange_is_determined old new slots p q agrees within valid_p valid_q exchanges
     settled old new (with_exchange old p q) (Crosses old p q) p q (λ s made. made.rest)
     crossed exchanges (exchanged_exchanges old p q agrees valid_p valid_q)
 
--- An exchange splits a cyclic chain.
 pub exchange_splits : ExchangeSplitsACycle
 exchange_splits link_map p q xs agrees ne chain has_p has_q =
     let w = written_cyclic link_map p q xs ne chain has_p has_q in
@@ -192,7 +178,6 @@ exchange_splits link_map p q xs agrees ne chain has_p has_q =
     let parts = exchanges.one_cyclic w.0 w.1 w.2 in
     (w.0, w.1, one_ring link_map xs (p ∷ w.0 ++ q ∷ w.1) p chain w.2 has_p (inl refl), parts.0, parts.1)
 
--- An exchange merges two cyclic chains.
 pub exchange_merges : ExchangeMergesCycles
 exchange_merges link_map p q xs ys agrees left right has_p has_q none =
     let v = rotated_to link_map xs p left has_p in

@@ -6,14 +6,12 @@ use Rattle.chain_laws.proofs.ListLemmas.Members.{IsMember-left, IsMember-right, 
 use Rattle.chain_laws.proofs.ChainLemmas.Rotations.{rotated_to}
 use Rattle.chain_laws.proofs.WalkLemmas.WalkBack.{length_among}
 
--- Lists without repetition and with the same items are equally long.
 pub same_length : (xs ys : List ℕ) → AreDistinct xs → AreDistinct ys → ((i : ℕ) → IsMember xs i ↔ IsMember ys i) → length xs ≡ length ys
 same_length xs ys once_x once_y same =
     let less = length_among xs ys once_x (λ i. (same i).0) in
     let more = length_among ys xs once_y (λ i. (same i).1) in
     omega (arith, less, more)
 
--- The tails of two lists trade places.
 crossed : (x y : List ℕ) (p q i : ℕ) → IsMember (p ∷ y ++ q ∷ x) i ↔ (IsMember (p ∷ x) i ⊎ IsMember (q ∷ y) i)
 crossed x y p q i = (out, into)
   where

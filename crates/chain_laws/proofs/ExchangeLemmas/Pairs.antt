@@ -22,7 +22,6 @@ pub record AreExchanged (old new : LinkMap) (p q : ℕ) : Type 0 where
   pub back : (i : ℕ) → prev_of new i ≡ swapped_in p q (prev_of old i)
   pub links : (i : ℕ) → HasLink new i ↔ HasLink old i
 
--- The old arena is an exchange of the new one.
 pub are_exchanged_back : (old new : LinkMap) (p q : ℕ) → AreExchanged old new p q → AreExchanged new old p q
 are_exchanged_back old new p q are =
     record {
@@ -31,7 +30,6 @@ are_exchanged_back old new p q are =
       links = λ i. ((are.links i).1, (are.links i).0);
     }
 
--- The order of p and q does not matter.
 pub are_exchanged_mutually : (old new : LinkMap) (p q : ℕ) → AreExchanged old new p q → AreExchanged old new q p
 are_exchanged_mutually old new p q are =
     record {
@@ -40,7 +38,6 @@ are_exchanged_mutually old new p q are =
       links = are.links;
     }
 
--- `exchanged` exchanges them.
 pub exchanged_are : (link_map : LinkMap) (p q : ℕ) → IsWellLinked link_map → HasLink link_map p → HasLink link_map q → AreExchanged link_map (with_exchange link_map p q) p q
 exchanged_are link_map p q agrees valid_p valid_q =
     record {
@@ -95,7 +92,6 @@ exchanged_are link_map p q agrees valid_p valid_q =
         put_at-other (prev_of half) a (Some q) i not_a ∙ inner_prev i ∙ put_at-other (prev_of link_map) b (Some p) i not_b
         ∙ sym (swapped_in-other p q (prev_of link_map i) (λ e. not_a ((agrees.both p i).1 e)) (λ e. not_b ((agrees.both q i).1 e)))
 
--- After an exchange the interlinks agree.
 pub exchanged_agrees : ExchangeAgrees
 exchanged_agrees link_map p q agrees valid_p valid_q =
     record {
@@ -111,7 +107,6 @@ exchanged_agrees link_map p q agrees valid_p valid_q =
     there : AreExchanged (with_exchange link_map p q) link_map p q
     there = are_exchanged_back link_map (with_exchange link_map p q) p q are
 
--- The pairs and links after an exchange.
 pub exchanged_in_pairs : ExchangeInPairs
 exchanged_in_pairs link_map p q agrees valid_p valid_q =
     record {
@@ -134,7 +129,6 @@ exchanged_in_pairs link_map p q agrees valid_p valid_q =
     back i j (inr (inl s)) = ap (next_of link_map) (swapped-first p q i s.0) ∙ s.1
     back i j (inr (inr s)) = ap (next_of link_map) (swapped-second p q i s.0) ∙ s.1
 
--- An exchange whose interlinks agree is determined by its pairs.
 pub exchange_is_determined_by_pairs : ExchangeIsDeterminedByPairs
 exchange_is_determined_by_pairs old new p q agrees agrees_new valid_p valid_q exchanges =
     let that = exchanged_in_pairs old p q agrees valid_p valid_q in
@@ -142,20 +136,17 @@ exchange_is_determined_by_pairs old new p q agrees agrees_new valid_p valid_q ex
     (λ i. (λ v. (that.links i).1 ((exchanges.links i).0 v), λ v. (exchanges.links i).1 ((that.links i).0 v)))
     (λ i j. (λ e. (that.pairs i j).1 ((exchanges.pairs i j).0 e), λ e. (exchanges.pairs i j).1 ((that.pairs i j).0 e)))
 
--- Consistent arenas with equal links and `next` are equal.
 same_after : (left right : LinkMap) → IsWellLinked left → IsWellLinked right → ((i : ℕ) → HasLink left i ↔ HasLink right i)
     → ((i : ℕ) → next_of left i ≡ next_of right i) → left ≡ right
 same_after left right agrees_left agrees_right links same =
     pairs_decide left right agrees_left agrees_right links (λ i j. (λ e. sym (same i) ∙ e, λ e. same i ∙ e))
 
--- An exchange of a link with itself.
 pub exchanged_with_itself : ExchangeWithItselfKeeps
 exchanged_with_itself link_map p agrees valid =
     let are = exchanged_are link_map p p agrees valid valid in
     same_after (with_exchange link_map p p) link_map (exchanged_agrees link_map p p agrees valid valid) agrees are.links
     (λ i. are.forward i ∙ ap (next_of link_map) (swapped-itself p i))
 
--- An exchange with the two links in the other order.
 pub exchanged_mutually : ExchangeIsMutual
 exchanged_mutually link_map p q agrees valid_p valid_q =
     let are = exchanged_are link_map p q agrees valid_p valid_q in
@@ -165,7 +156,6 @@ exchanged_mutually link_map p q agrees valid_p valid_q =
     (λ i. (λ v. (that.links i).1 ((are.links i).0 v), λ v. (are.links i).1 ((that.links i).0 v)))
     (λ i. are.forward i ∙ ap (next_of link_map) (swapped-mutual p q i) ∙ sym (that.forward i))
 
--- Two exchanges of the same two links.
 pub exchanged_twice : ExchangeTwiceRestores
 exchanged_twice link_map p q agrees valid_p valid_q =
     let once = with_exchange link_map p q in

@@ -14,24 +14,19 @@ use Rattle.chain_laws.proofs.JoinLemmas.Lists.{IsOutside, IsOutside-Some, AreLin
 use Rattle.chain_laws.proofs.JoinLemmas.LoneLinks.{with_lone-at, AreLinked-with_lone, with_lone_adds}
 use Rattle.chain_laws.proofs.InsertionLemmas.Pairs.{free_invalid, appended, HasLink-inserted}
 
--- The last item of a list is not in a disjoint list.
 last_apart : (xs ys : List ℕ) → ((k : ℕ) → IsMember xs k → IsMember ys k → ⊥) → IsOutside (last_or xs None) ys
 last_apart xs ys apart k named h = ⊎_elim (λ g. apart k g h) (λ e. absurd (cc)) (last_or-IsMember xs None k named)
 
--- The first item of a list is not in a disjoint list.
 first_apart : (xs ys : List ℕ) → ((k : ℕ) → IsMember xs k → IsMember ys k → ⊥) → IsOutside (first_or ys None) xs
 first_apart xs ys apart k named h = ⊎_elim (λ g. apart k h g) (λ e. absurd (cc)) (first_or-IsMember ys None k named)
 
--- A list is disjoint from an item that it lacks.
 one_apart : (xs : List ℕ) (q : ℕ) → (IsMember xs q → ⊥) → (k : ℕ) → IsMember xs k → IsMember (q ∷ []) k → ⊥
 one_apart xs q none k h (inl e) = none (subst (IsMember xs) (sym e) h)
 one_apart xs q none k h (inr g) = g
 
--- A distinct list stays distinct with a new item appended.
 once_appended : (xs : List ℕ) (q : ℕ) → AreDistinct xs → (IsMember xs q → ⊥) → AreDistinct (xs ++ q ∷ [])
 once_appended xs q once none = AreDistinct-append xs (q ∷ []) once (λ h. h, tt) (one_apart xs q none)
 
--- A new link after the last item of a list, if any, is appended.
 AreLinked-appended : (link_map : LinkMap) (q : ℕ) (before : Option ℕ) (xs : List ℕ) (after : Option ℕ) → last_or xs before ≡ last_or xs None
     → AreDistinct xs → (IsMember xs q → ⊥) → AreLinked link_map before xs after → AreLinked (appended link_map q (last_or xs None)) before (xs ++ q ∷ []) None
 AreLinked-appended link_map q before xs after ends once none stored =
@@ -42,7 +37,6 @@ AreLinked-appended link_map q before xs after ends once none stored =
     ((AreLinked-with_lone link_map q before xs after none).0 stored)
     (with_lone-at link_map q q refl, tt))
 
--- A new link after the end of one list and before the start of another, either maybe empty.
 pub inserted_between : (link_map : LinkMap) (q : ℕ) (xs : List ℕ) (xs_after ys_before : Option ℕ) (ys : List ℕ) → AreDistinct (xs ++ ys)
     → (IsMember (xs ++ ys) q → ⊥) → AreLinked link_map None xs xs_after → AreLinked link_map ys_before ys None
     → IsChain (with_insertion link_map q (last_or xs None) (first_or ys None)) (linear (xs ++ q ∷ ys))
@@ -81,7 +75,6 @@ inserted_between link_map q xs xs_after ys_before ys once none xs_stored ys_stor
         by (inl m) = apart k m g
         by (inr m) = one_apart ys q not_right k g m
 
--- A new link after the end and before the start of a list.
 pub inserted_cyclic : (link_map : LinkMap) (q : ℕ) (before : Option ℕ) (xs : List ℕ) (after : Option ℕ) → xs ≢ [] → AreDistinct xs → (IsMember xs q → ⊥)
     → AreLinked link_map before xs after → IsChain (with_insertion link_map q (last_or xs None) (first_or xs None)) (cyclic (xs ++ q ∷ []))
 inserted_cyclic link_map q before [] after filled once none stored = absurd (filled refl)
@@ -97,18 +90,15 @@ inserted_cyclic link_map q before (x ∷ xs) after filled once none stored =
           (last_or-append (x ∷ xs) (q ∷ []) None) ringed,
     )
 
--- No chain has a free index.
 chain_excludes_free : (link_map : LinkMap) (q : ℕ) (c : Chain) → link_map q ≡ None → IsChain link_map c → IsMember (items c) q → ⊥
 chain_excludes_free link_map q c free chain h = free_invalid link_map q free (chain_valid link_map c q chain h)
 
--- A new link between two parts of a linear chain.
 inserted_in_linear : (link_map : LinkMap) (q : ℕ) (xs ys : List ℕ) → link_map q ≡ None → IsChain link_map (linear (xs ++ ys))
     → IsChain (with_insertion link_map q (last_or xs None) (first_or ys None)) (linear (xs ++ q ∷ ys))
 inserted_in_linear link_map q xs ys free chain =
     inserted_between link_map q xs (first_or ys None) (last_or xs None) ys chain.1 (chain_excludes_free link_map q (linear (xs ++ ys)) free chain)
     (AreLinked-left link_map None xs ys None chain.2) (AreLinked-right link_map None xs ys None chain.2)
 
--- A new link between two parts of a cyclic chain.
 inserted_in_cyclic : (link_map : LinkMap) (q : ℕ) (xs ys : List ℕ) → link_map q ≡ None → IsChain link_map (cyclic (xs ++ ys))
     → IsChain (with_insertion link_map q (last_or (ys ++ xs) None) (first_or (ys ++ xs) None)) (cyclic (xs ++ q ∷ ys))
 inserted_in_cyclic link_map q xs ys free chain =
@@ -121,7 +111,6 @@ inserted_in_cyclic link_map q xs ys free chain =
     rotated new ys (xs ++ q ∷ []) (subst (λ (zs : List ℕ). IsChain new (cyclic zs)) (append_assoc ys xs (q ∷ [])) longer) in
     subst (λ (zs : List ℕ). IsChain new (cyclic zs)) (append_assoc xs (q ∷ []) ys) rotated_back
 
--- Insertion after an item of a linear chain.
 inserted_after_in_linear : (link_map : LinkMap) (a q : ℕ) (x y : List ℕ) → link_map q ≡ None → IsChain link_map (linear (x ++ a ∷ y))
     → IsChain (with_insertion link_map q (Some a) (next_of link_map a)) (linear (x ++ a ∷ q ∷ y))
 inserted_after_in_linear link_map a q x y free chain =
@@ -132,7 +121,6 @@ inserted_after_in_linear link_map a q x y free chain =
     (subst₂ (λ (u v : Option ℕ). IsChain (with_insertion link_map q u v) (linear ((x ++ a ∷ []) ++ q ∷ y))) ends follows
     (inserted_in_linear link_map q (x ++ a ∷ []) y free split))
 
--- Insertion after an item of a cyclic chain.
 inserted_after_in_cyclic : (link_map : LinkMap) (a q : ℕ) (x y : List ℕ) → link_map q ≡ None → IsChain link_map (cyclic (x ++ a ∷ y))
     → IsChain (with_insertion link_map q (Some a) (next_of link_map a)) (cyclic (x ++ a ∷ q ∷ y))
 inserted_after_in_cyclic link_map a q x y free chain =
@@ -145,14 +133,12 @@ inserted_after_in_cyclic link_map a q x y free chain =
     (subst₂ (λ (u v : Option ℕ). IsChain (with_insertion link_map q u v) (cyclic ((x ++ a ∷ []) ++ q ∷ y))) ends follows
     (inserted_in_cyclic link_map q (x ++ a ∷ []) y free split))
 
--- Insertion before an item of a linear chain.
 inserted_before_in_linear : (link_map : LinkMap) (b q : ℕ) (x y : List ℕ) → link_map q ≡ None → IsChain link_map (linear (x ++ b ∷ y))
     → IsChain (with_insertion link_map q (prev_of link_map b) (Some b)) (linear (x ++ q ∷ b ∷ y))
 inserted_before_in_linear link_map b q x y free chain =
     let precedes : last_or x None ≡ prev_of link_map b = sym (reports_prev link_map b _ _ (AreLinked-at link_map None x y None b chain.2)) in
     subst (λ (u : Option ℕ). IsChain (with_insertion link_map q u (Some b)) (linear (x ++ q ∷ b ∷ y))) precedes (inserted_in_linear link_map q x (b ∷ y) free chain)
 
--- Insertion before an item of a cyclic chain.
 inserted_before_in_cyclic : (link_map : LinkMap) (b q : ℕ) (x y : List ℕ) → link_map q ≡ None → IsChain link_map (cyclic (x ++ b ∷ y))
     → IsChain (with_insertion link_map q (prev_of link_map b) (Some b)) (cyclic (x ++ q ∷ b ∷ y))
 inserted_before_in_cyclic link_map b q x y free chain =
@@ -160,7 +146,6 @@ inserted_before_in_cyclic link_map b q x y free chain =
     let precedes : last_or (b ∷ y ++ x) None ≡ prev_of link_map b = sym (reports_prev link_map b _ _ ring.2.0) in
     subst (λ (u : Option ℕ). IsChain (with_insertion link_map q u (Some b)) (cyclic (x ++ q ∷ b ∷ y))) precedes (inserted_in_cyclic link_map q x (b ∷ y) free chain)
 
--- Insertion between the end of a chain and the start of another.
 inserted_two : (link_map : LinkMap) (a b q : ℕ) (x y : List ℕ) → link_map q ≡ None → IsChain link_map (linear (x ++ a ∷ [])) → IsChain link_map (linear (b ∷ y))
     → (IsMember (x ++ a ∷ []) b → ⊥) → IsChain (with_insertion link_map q (Some a) (Some b)) (linear ((x ++ a ∷ q ∷ []) ++ b ∷ y))
 inserted_two link_map a b q x y free left right none =
@@ -180,14 +165,12 @@ inserted_two link_map a b q x y free left right none =
     written : (x ++ a ∷ []) ++ q ∷ b ∷ y ≡ (x ++ a ∷ q ∷ []) ++ b ∷ y
     written = append_assoc x (a ∷ []) (q ∷ b ∷ y) ∙ sym (append_assoc x (a ∷ q ∷ []) (b ∷ y))
 
--- Insertion between the end and the start of the same chain.
 inserted_one : (link_map : LinkMap) (a b q : ℕ) (xs : List ℕ) → link_map q ≡ None → IsChain link_map (linear xs)
     → first_or xs None ≡ Some b → last_or xs None ≡ Some a → IsChain (with_insertion link_map q (Some a) (Some b)) (cyclic (xs ++ q ∷ []))
 inserted_one link_map a b q xs free chain starts ends =
     subst₂ (λ (u v : Option ℕ). IsChain (with_insertion link_map q u v) (cyclic (xs ++ q ∷ []))) ends starts
     (inserted_cyclic link_map q None xs None chain.0 chain.1 (chain_excludes_free link_map q (linear xs) free chain) chain.2)
 
--- A new link that names itself.
 inserted_ring : (link_map : LinkMap) (q : ℕ) → IsChain (with_insertion link_map q (Some q) (Some q)) (cyclic (q ∷ []))
 inserted_ring link_map q =
     let once : AreDistinct (q ∷ []) = (λ h. h, tt) in
@@ -195,12 +178,10 @@ inserted_ring link_map q =
     AreLinked-ringed (with_lone link_map q) None (q ∷ []) None once (with_lone-at link_map q q refl, tt) in
     (IsMember-filled (q ∷ []) q (inl refl), once, AreLinked-ringed (appended link_map q (Some q)) (Some q) (q ∷ []) (Some q) once closed)
 
--- An index that a chain lacks is outside its items.
 pub HasIndex-apart : (c : Chain) (u : Option ℕ) → (HasIndex c u → ⊥) → IsOutside u (items c)
 HasIndex-apart c None none k e h = cc
 HasIndex-apart c (Some i) none k e h = IsOutside-Some i (items c) none k e h
 
--- A chain with none of the indexes is unchanged.
 inserted_rest : (link_map : LinkMap) (q : ℕ) (u v : Option ℕ) → link_map q ≡ None → (c : Chain)
     → (IsMember (items c) q → ⊥) → (HasIndex c u → ⊥) → (HasIndex c v → ⊥) → IsChain link_map c ↔ IsChain (with_insertion link_map q u v) c
 inserted_rest link_map q u v free c none_q none_u none_v =
@@ -209,7 +190,6 @@ inserted_rest link_map q u v free c none_q none_u none_v =
     let outer = IsChain-linked (appended link_map q u) (Some q) v c (IsOutside-Some q (items c) none_q) (HasIndex-apart c v none_v) in
     (λ h. outer.0 (inner.0 (alone.0 h)), λ h. alone.1 (inner.1 (outer.1 h)))
 
--- An insertion inserts the new link between u and v.
 pub inserted_inserts : InsertionInserts
 inserted_inserts link_map q u v free =
     record {

@@ -19,17 +19,14 @@ record Lengthened (old : LinkMap) (q : ℕ) (u v : Option ℕ) : Type 0 where
   has_after : (i : ℕ) → v ≡ Some i → IsMember (items chain) i
   stored : (new : LinkMap) → Inserts old new q u v → IsChain new chain
 
--- A member, as an optional index.
 IsMember-Some : (xs : List ℕ) (a i : ℕ) → IsMember xs a → Some a ≡ Some i → IsMember xs i
 IsMember-Some xs a i h e = subst (IsMember xs) (one_some e) h
 
--- A list keeps its items when one is inserted.
 IsMember-inserted : (xs ys : List ℕ) (q i : ℕ) → IsMember (xs ++ ys) i → IsMember (xs ++ q ∷ ys) i
 IsMember-inserted [] ys q i h = inr h
 IsMember-inserted (x ∷ xs) ys q i (inl e) = inl e
 IsMember-inserted (x ∷ xs) ys q i (inr h) = inr (IsMember-inserted xs ys q i h)
 
--- Insertion after an end.
 lengthened_end : (old : LinkMap) (a q : ℕ) → next_of old a ≡ None → (x : List ℕ) → IsChain old (linear (x ++ a ∷ [])) → Lengthened old q (Some a) None
 lengthened_end old a q end x chain =
     record {
@@ -40,7 +37,6 @@ lengthened_end old a q end x chain =
       stored = λ new inserts. (inserts.after a refl (sym end) x []).0 chain;
     }
 
--- Insertion before a start.
 lengthened_start : (old : LinkMap) (b q : ℕ) → prev_of old b ≡ None → (y : List ℕ) → IsChain old (linear (b ∷ y)) → Lengthened old q None (Some b)
 lengthened_start old b q start y chain =
     record {
@@ -51,7 +47,6 @@ lengthened_start old b q start y chain =
       stored = λ new inserts. (inserts.before b refl (sym start) [] y).0 chain;
     }
 
--- Insertion between neighbors of one list.
 lengthened_list : (old : LinkMap) (a b q : ℕ) (x y : List ℕ) → IsMember (x ++ b ∷ y) a → (c : Chain) → items c ≡ x ++ q ∷ b ∷ y
     → ((new : LinkMap) → Inserts old new q (Some a) (Some b) → IsChain new c) → Lengthened old q (Some a) (Some b)
 lengthened_list old a b q x y has_a c same stored =
@@ -64,7 +59,6 @@ lengthened_list old a b q x y has_a c same stored =
       stored = stored;
     }
 
--- Insertion between neighbors.
 lengthened_pair : (old : LinkMap) (a b q : ℕ) → prev_of old b ≡ Some a → ChainOf old b → Lengthened old q (Some a) (Some b)
 lengthened_pair old a b q before (stored_in (linear xs) chain has) = let w = IsMember-written xs b has in by w.0 w.1 w.2
   where
@@ -81,7 +75,6 @@ lengthened_pair old a b q before (stored_in (cyclic xs) chain has) = let w = IsM
         let has_a : IsMember (x ++ b ∷ y) a = (chain_closed old (cyclic (x ++ b ∷ y)) here).back b a (IsMember-middle x y b) before in
         lengthened_list old a b q x y has_a (cyclic (x ++ q ∷ b ∷ y)) refl (λ new inserts. (inserts.before b refl (sym before) x y).1 here)
 
--- Insertion between an end and a start.
 lengthened_bridge : (old : LinkMap) (a b q : ℕ) (x y : List ℕ) → IsChain old (linear (x ++ a ∷ [])) → IsChain old (linear (b ∷ y))
     → Lengthened old q (Some a) (Some b)
 lengthened_bridge old a b q x y left right = by (IsMember-or_not (x ++ a ∷ []) b)
@@ -108,7 +101,6 @@ lengthened_bridge old a b q x y left right = by (IsMember-or_not (x ++ a ∷ [])
           stored = λ new inserts. inserts.two a b refl refl x y left right none;
         }
 
--- Insertion in any position.
 lengthened : (old : LinkMap) (slots q : ℕ) (u v : Option ℕ) → IsWellLinked old → HasLinksWithin old slots → IsInsertPosition old q u v → Lengthened old q u v
 lengthened old slots q None None agrees within position =
     record {
@@ -140,12 +132,10 @@ lengthened old slots q (Some a) (Some b) agrees within (inr (inr ring)) =
       stored = λ new inserts. inserts.ring (ap Some ring.0) (ap Some ring.1);
     }
 
--- A chain has an optional index or not.
 HasIndex-or_not : (c : Chain) (u : Option ℕ) → ((i : ℕ) × (u ≡ Some i) × IsMember (items c) i) ⊎ (HasIndex c u → ⊥)
 HasIndex-or_not c None = inr (λ h. h)
 HasIndex-or_not c (Some i) = ⊎_elim (λ h. inl (i, refl, h)) (λ none. inr none) (IsMember-or_not (items c) i)
 
--- Two insertions of q between u and v give the same chains.
 inserted_alike : (old left right : LinkMap) (q : ℕ) (u v : Option ℕ) → Lengthened old q u v → Inserts old left q u v → Inserts old right q u v
     → (c : Chain) → IsChain left c → IsChain right c
 inserted_alike old left right q u v longer l r c chain = by (IsMember-or_not (items c) q) (HasIndex-or_not c u) (HasIndex-or_not c v)
@@ -160,7 +150,6 @@ inserted_alike old left right q u v longer l r c chain = by (IsMember-or_not (it
     by (inr none_q) (inr none_u) (inl t) = shared t.0 t.2 (longer.has_after t.0 t.1)
     by (inr none_q) (inr none_u) (inr none_v) = (r.rest c none_q none_u none_v).0 ((l.rest c none_q none_u none_v).1 chain)
 
--- Any insertion has the chains of `inserted`.
 pub insertion_is_determined : InsertionIsDetermined
 insertion_is_determined old new slots q u v agrees within free position inserts c =
     let longer = lengthened old slots q u v agrees within position in

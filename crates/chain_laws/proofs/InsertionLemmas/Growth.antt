@@ -6,7 +6,6 @@ use Rattle.chain_laws.proofs.ListLemmas.Members.{IsMember-written}
 use Rattle.chain_laws.proofs.ListLemmas.MemberLaws.{member_after_item, member_in_middle}
 
 module _ (old new : LinkMap) (a q : ℕ) (shape : List ℕ → Chain) where
-  -- The members of a list with q inserted, if another way to write the list is known.
   same_with : (xs ys zs : List ℕ) (i : ℕ) → xs ≡ ys → IsMember zs i ↔ ((i ≡ q) ⊎ IsMember ys i) → IsMember zs i ↔ ((i ≡ q) ⊎ IsMember xs i)
   same_with xs ys zs i written same = subst (λ (l : List ℕ). IsMember zs i ↔ ((i ≡ q) ⊎ IsMember l i)) (sym written) same
 
@@ -32,7 +31,6 @@ module _ (old new : LinkMap) (a q : ℕ) (shape : List ℕ → Chain) where
         size = omega (arith, ap length written, length-append before (q ∷ a ∷ after), length-append before (a ∷ after));
       }
 
--- A link beside a goes into the chain of a.
 pub insertion_grows_the_chain : InsertionGrowsTheChain
 insertion_grows_the_chain old new a q = (
   λ inserts xs has. (

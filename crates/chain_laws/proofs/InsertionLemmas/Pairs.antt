@@ -14,17 +14,14 @@ use Rattle.chain_laws.proofs.InterlinkLemmas.Skips.{names_or_not}
 use Rattle.chain_laws.proofs.InterlinkLemmas.Puts.{Puts, IsOpenPlace, puts_pairs, puts_undo}
 use Rattle.chain_laws.proofs.ChainLemmas.Determinacy.{pairs_decide}
 
--- The changed index, if it is one.
 pub put_at-same : (f : ℕ → Option ℕ) (u o : Option ℕ) (j : ℕ) → u ≡ Some j → put_at f u o j ≡ o
 put_at-same f None o j e = absurd (cc)
 put_at-same f (Some i) o j e = altered-same f i o j (sym (one_some e))
 
--- Any other index.
 pub put_at-other : (f : ℕ → Option ℕ) (u o : Option ℕ) (j : ℕ) → u ≢ Some j → put_at f u o j ≡ f j
 put_at-other f None o j ne = refl
 put_at-other f (Some i) o j ne = altered-other f i o j (λ e. ne (ap Some (sym e)))
 
--- A free index is not valid.
 pub free_invalid : (link_map : LinkMap) (q : ℕ) → link_map q ≡ None → HasLink link_map q → ⊥
 free_invalid link_map q free valid = let links = sym free ∙ valid.links in cc
 
@@ -32,14 +29,12 @@ free_invalid link_map q free valid = let links = sym free ∙ valid.links in cc
 abbrev pub appended : LinkMap → ℕ → Option ℕ → LinkMap
 appended link_map q u = with_neighbors (with_lone link_map q) u (Some q)
 
--- q is the only index that becomes valid.
 pub HasLink-appended : (link_map : LinkMap) (q : ℕ) (u : Option ℕ) (i : ℕ) → HasLink (appended link_map q u) i ↔ (HasLink link_map i ⊎ (i ≡ q))
 HasLink-appended link_map q u i =
     let outer = HasLink-linked (with_lone link_map q) u (Some q) i in
     let inner = HasLink-with_lone link_map q i in
     (λ v. inner.0 (outer.0 v), λ v. outer.1 (inner.1 v))
 
--- The valid indexes once q comes before v.
 pub HasLink-inserted : (link_map : LinkMap) (q : ℕ) (u v : Option ℕ) (i : ℕ) → HasLink (with_insertion link_map q u v) i ↔ (HasLink link_map i ⊎ (i ≡ q))
 HasLink-inserted link_map q u v i =
     let outer = HasLink-linked (appended link_map q u) (Some q) v i in
@@ -53,7 +48,6 @@ pub record IsBetween (link_map : LinkMap) (q : ℕ) (u v : Option ℕ) : Type 0 
   pub forward : IsOpenPlace (next_of link_map) q u v
   pub back : IsOpenPlace (prev_of link_map) q v u
 
--- `next` after the insertion puts q between u and v.
 pub next_puts : (link_map : LinkMap) (q : ℕ) (u v : Option ℕ) → link_map q ≡ None → IsBetween link_map q u v
     → Puts (next_of link_map) (next_of (with_insertion link_map q u v)) q u v
 next_puts link_map q u v free between =
@@ -71,7 +65,6 @@ next_puts link_map q u v free between =
     inner : (j : ℕ) → next_of (appended link_map q u) j ≡ put_at (next_of (with_lone link_map q)) u (Some q) j
     inner j = next_of-linked (with_lone link_map q) u (Some q) j (λ i e. (HasLink-with_lone link_map q i).1 (between.valid_before i e))
 
--- `prev` after the insertion puts q between v and u.
 pub prev_puts : (link_map : LinkMap) (q : ℕ) (u v : Option ℕ) → link_map q ≡ None → IsBetween link_map q u v
     → Puts (prev_of link_map) (prev_of (with_insertion link_map q u v)) q v u
 prev_puts link_map q u v free between =
@@ -91,7 +84,6 @@ prev_puts link_map q u v free between =
     inner : (j : ℕ) → prev_of (appended link_map q u) j ≡ altered (prev_of (with_lone link_map q)) q u j
     inner j = prev_of-linked (with_lone link_map q) u (Some q) j (IsValidAt-Some (with_lone link_map q) q ((HasLink-with_lone link_map q q).1 (inr refl)))
 
--- q may be put between valid u and v that name at most each other.
 capacity_between : (link_map : LinkMap) (q : ℕ) (u v : Option ℕ) → link_map q ≡ None → IsValidAt link_map u → IsValidAt link_map v
     → ((i j : ℕ) → u ≡ Some i → next_of link_map i ≡ Some j → v ≡ Some j)
     → ((i j : ℕ) → v ≡ Some i → prev_of link_map i ≡ Some j → u ≡ Some j) → IsBetween link_map q u v
@@ -103,7 +95,6 @@ capacity_between link_map q u v free valid_u valid_v after before =
       back = record { free = ap prev_in free; only = before; itself = λ e. absurd (free_invalid link_map q free (valid_v q e)) };
     }
 
--- q may be put in an insertion position.
 pub position_between : (link_map : LinkMap) (q : ℕ) (u v : Option ℕ) → IsWellLinked link_map → link_map q ≡ None → IsInsertPosition link_map q u v → IsBetween link_map q u v
 position_between link_map q None None agrees free position =
     capacity_between link_map q None None free (λ i e. absurd (cc)) (λ i e. absurd (cc)) (λ i j e n. absurd (cc)) (λ i j e p. absurd (cc))
@@ -148,7 +139,6 @@ position_between link_map q (Some a) (Some b) agrees free (inr (inr ring)) =
       };
     }
 
--- After an insertion the interlinks agree.
 pub inserted_agrees : InsertionAgrees
 inserted_agrees link_map q u v agrees free position =
     let between = position_between link_map q u v agrees free position in
@@ -157,7 +147,6 @@ inserted_agrees link_map q u v agrees free position =
           agrees.both between.forward between.back (next_puts link_map q u v free between) (prev_puts link_map q u v free between);
     }
 
--- The pairs and links after an insertion.
 pub inserted_in_pairs : InsertionInPairs
 inserted_in_pairs link_map q u v agrees free position =
     let between = position_between link_map q u v agrees free position in
@@ -166,7 +155,6 @@ inserted_in_pairs link_map q u v agrees free position =
       links = HasLink-inserted link_map q u v;
     }
 
--- An insertion whose interlinks agree is determined by its pairs.
 pub insertion_is_determined_by_pairs : InsertionIsDeterminedByPairs
 insertion_is_determined_by_pairs old new q u v agrees agrees_new free position inserts =
     let that = inserted_in_pairs old q u v agrees free position in
@@ -174,7 +162,6 @@ insertion_is_determined_by_pairs old new q u v agrees agrees_new free position i
     (λ i. (λ w. (that.links i).1 ((inserts.links i).0 w), λ w. (inserts.links i).1 ((that.links i).0 w)))
     (λ i j. (λ e. (that.pairs i j).1 ((inserts.pairs i j).0 e), λ e. (inserts.pairs i j).1 ((that.pairs i j).0 e)))
 
--- Positions after a link and before a link.
 pub position_after : (link_map : LinkMap) (a q : ℕ) (v : Option ℕ) → HasLink link_map a → next_of link_map a ≡ v → IsInsertPosition link_map q (Some a) v
 position_after link_map a q None valid is = (valid, is)
 position_after link_map a q (Some b) valid is = inl is

@@ -6,7 +6,6 @@ use Rattle.chain_laws.specs.Chains.{LinkMap, Interlinks, HasLink, prev_of, next_
 use Rattle.chain_laws.specs.Joins.{AreEndAndStart}
 use Rattle.chain_laws.specs.Insertions.{IsInsertPosition}
 
--- Double negations of `HasLink` and of `None` can be removed.
 stored_had : (link_map : LinkMap) (i : ℕ) (link : Option Interlinks) → link_map i ≡ link → ((HasLink link_map i → ⊥) → ⊥) → HasLink link_map i
 stored_had link_map i None none some = absurd (some (λ v. let no = sym none ∙ v.links in cc))
 stored_had link_map i (Some l) is some = record { link = l; links = is }
@@ -16,7 +15,6 @@ none_had o None is none = is
 none_had o (Some n) is none = absurd (none (λ no. let both = sym is ∙ no in cc))
 
 module _ (link_map : LinkMap) (q a b : ℕ) (h : (IsInsertPosition link_map q (Some a) (Some b) → ⊥) → ⊥) where
-  -- Neither neighbors nor the new link: an end and a start.
   only_ends : next_of link_map a ≡ None → ((a ≡ q) × (b ≡ q) → ⊥) → (AreEndAndStart link_map a b → ⊥) → ⊥
   only_ends none other not = h (λ position. elim position [
     | inl pair ↦ (let both = sym none ∙ pair in cc)

@@ -13,7 +13,6 @@ use Rattle.chain_laws.proofs.RemovalLemmas.Pairs.{removed_agrees, removed_in_pai
 use Rattle.chain_laws.proofs.ChainLemmas.Determinacy.{pairs_decide}
 use Rattle.chain_laws.proofs.InsertionLemmas.Pairs.{free_invalid, position_after, position_before, position_between, next_puts, prev_puts, inserted_agrees, inserted_in_pairs}
 
--- The removal of a link whose neighbors, if it has two, were neighbors.
 removed_of_inserted : (link_map : LinkMap) (q : ℕ) (u v : Option ℕ) → IsWellLinked link_map → link_map q ≡ None → IsInsertPosition link_map q u v
     → ((i j : ℕ) → u ≡ Some i → v ≡ Some j → AreNeighbors link_map i j) → with_removal (with_insertion link_map q u v) q ≡ link_map
 removed_of_inserted link_map q u v agrees free position beside =
@@ -63,7 +62,6 @@ removed_of_inserted link_map q u v agrees free position beside =
     back i j e (inl at_u) (inr not_v) = inl ((inserts.pairs i j).1 (inl (e, λ p. not_v p.1)), not_first i j e, not_second i j e)
     back i j e (inr not_u) _ = inl ((inserts.pairs i j).1 (inl (e, λ p. not_u p.0)), not_first i j e, not_second i j e)
 
--- The removal of a link inserted next to another one.
 pub removed_of_inserted_restores : RemovalOfInsertedRestores
 removed_of_inserted_restores link_map a q agrees valid free = (
   removed_of_inserted link_map q (Some a) (next_of link_map a) agrees free (position_after link_map a q (next_of link_map a) valid refl)

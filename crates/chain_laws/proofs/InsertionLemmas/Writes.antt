@@ -13,7 +13,6 @@ use Rattle.chain_laws.proofs.ChainLemmas.LinkedLists.{link}
 abbrev pub with_link : LinkMap → ℕ → Option ℕ → Option ℕ → LinkMap
 with_link link_map q u v j = if j == q then Some (link u v) else link_map j
 
--- A new link written after none.
 alone_at : (b : Bool) (v : Option ℕ) (s : Option Interlinks)
     → (if b then option_map (with_next v) (if b then option_map (with_prev None) (if b then Some (link None None) else s) else (if b then Some (link None None) else s))
     else (if b then option_map (with_prev None) (if b then Some (link None None) else s) else (if b then Some (link None None) else s)))
@@ -21,7 +20,6 @@ alone_at : (b : Bool) (v : Option ℕ) (s : Option Interlinks)
 alone_at true v s = refl
 alone_at false v s = refl
 
--- A new link written after a link, by tests for both indexes.
 after_at : (b c : Bool) (a q : ℕ) (v : Option ℕ) (s : Option Interlinks) → (b ≡ true → c ≡ true → v ≡ Some q)
     → (if b then option_map (with_next v) (if b then option_map (with_prev (Some a)) (if c then option_map (with_next (Some q)) (if b then Some (link None None) else s) else (if b then Some (link None None) else s))
     else (if c then option_map (with_next (Some q)) (if b then Some (link None None) else s) else (if b then Some (link None None) else s)))
@@ -33,25 +31,21 @@ after_at true false a q v s itself = refl
 after_at false true a q v s itself = refl
 after_at false false a q v s itself = refl
 
--- Naming neighbors by writes and naming them at once agree.
 named_alike : (link_map : LinkMap) (q : ℕ) (u v : Option ℕ) → (u ≡ Some q → v ≡ Some q) → (j : ℕ)
     → with_next_at (with_prev_at (with_next_at (with_lone link_map q) u (Some q)) (Some q) u) (Some q) v j ≡ with_next_at (with_link link_map q u v) u (Some q) j
 named_alike link_map q None v itself j = alone_at (j == q) v (link_map j)
 named_alike link_map q (Some a) v itself j =
     after_at (j == q) (j == a) a q v (link_map j) (λ at_q at_a. itself (ap Some (sym (eqb-true j a at_a) ∙ eqb-true j q at_q)))
 
--- A link that names u and v and is named by them is inserted, if v is q where u is.
 pub inserted_by_writes : (link_map : LinkMap) (q : ℕ) (u v : Option ℕ) → (u ≡ Some q → v ≡ Some q)
     → with_prev_at (with_next_at (with_link link_map q u v) u (Some q)) v (Some q) ≡ with_insertion link_map q u v
 inserted_by_writes link_map q u v itself = ap (λ (s : LinkMap). with_prev_at s v (Some q)) (sym (fun_ext (named_alike link_map q u v itself)))
 
--- A lone link that names itself, by two writes and at once.
 ringed_at : (b : Bool) (q : ℕ) (s : Option Interlinks) → (let lone = (if b then Some (link None None) else s) in let named = (if b then option_map (with_next (Some q)) lone else lone) in if b then option_map (with_prev (Some q)) named else named)
     ≡ (if b then Some (link (Some q) (Some q)) else s)
 ringed_at true q s = refl
 ringed_at false q s = refl
 
--- A lone link that then names itself is a ring.
 pub ringed_by_writes : (link_map : LinkMap) (q : ℕ) → with_neighbors (with_lone link_map q) (Some q) (Some q) ≡ with_insertion link_map q (Some q) (Some q)
 ringed_by_writes link_map q = fun_ext (λ j. ringed_at (j == q) q (link_map j)) ∙ fun_ext (λ j. ringed_twice (j == q) q (link_map j)) where
   ringed_twice : (b : Bool) (q : ℕ) (s : Option Interlinks) → (if b then Some (link (Some q) (Some q)) else s)
@@ -60,7 +54,6 @@ ringed_by_writes link_map q = fun_ext (λ j. ringed_at (j == q) q (link_map j)) 
   ringed_twice true q s = refl
   ringed_twice false q s = refl
 
--- Without neighbors, an inserted link is a lone link.
 pub alone_by_writes : (link_map : LinkMap) (q : ℕ) → with_insertion link_map q None None ≡ with_lone link_map q
 alone_by_writes link_map q = fun_ext (λ j. alone_written (j == q) (link_map j)) where
   alone_written : (b : Bool) (s : Option Interlinks)

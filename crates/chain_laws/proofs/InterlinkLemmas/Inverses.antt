@@ -15,31 +15,24 @@ Undoes f g = (i j : ℕ) → (f i ≡ Some j) ↔ (g j ≡ Some i)
 abbrev pub altered : (ℕ → Option ℕ) → ℕ → Option ℕ → ℕ → Option ℕ
 altered f i o j = if j == i then o else f j
 
--- A conditional on equal numbers.
 pub if_same : {A : Type 0} (i j : ℕ) (x y : A) → i ≡ j → (if i == j then x else y) ≡ x
 if_same i j x y e = ap (λ t. if t then x else y) (eq-eqb i j e)
 
--- A conditional on different numbers.
 pub if_other : {A : Type 0} (i j : ℕ) (x y : A) → i ≢ j → (if i == j then x else y) ≡ y
 if_other i j x y ne = ap (λ t. if t then x else y) (ne_eqb i j ne)
 
--- The changed index.
 pub altered-same : (f : ℕ → Option ℕ) (i : ℕ) (o : Option ℕ) (j : ℕ) → j ≡ i → altered f i o j ≡ o
 altered-same f i o j e = if_same j i o (f j) e
 
--- Any other index.
 pub altered-other : (f : ℕ → Option ℕ) (i : ℕ) (o : Option ℕ) (j : ℕ) → j ≢ i → altered f i o j ≡ f j
 altered-other f i o j ne = if_other j i o (f j) ne
 
--- An option is not both `None` and `Some`.
 pub not_both_ways : {A : Type 0} (o : Option A) (x : A) → o ≡ None → o ≡ Some x → ⊥
 not_both_ways o x none some = cc
 
--- `Some` is injective.
 pub one_some : {A : Type 0} {x y : A} → Some x ≡ Some y → x ≡ y
 one_some e = cc
 
--- A new pair (a, b), if b had no previous index.
 pub join_returns : (f g : ℕ → Option ℕ) (a b : ℕ) → NamesBack f g → g b ≡ None → NamesBack (altered f a (Some b)) (altered g b (Some a))
 join_returns f g a b each free i j e =
     ⊎_elim
@@ -50,7 +43,6 @@ join_returns f g a b each free i j e =
     altered-other g b (Some a) j apart ∙ back)
     (cases_eq i a)
 
--- The pair (a, b) removed, if b came after a.
 pub cut_returns : (f g : ℕ → Option ℕ) (a b : ℕ) → NamesBack f g → NamesBack g f → f a ≡ Some b → NamesBack (altered f a None) (altered g b None)
 cut_returns f g a b each back pair i j e =
     ⊎_elim
@@ -61,25 +53,21 @@ cut_returns f g a b each back pair i j e =
     altered-other g b None j apart ∙ each i j here)
     (cases_eq i a)
 
--- Both directions together.
 pub undoes_both : (f g : ℕ → Option ℕ) → NamesBack f g → NamesBack g f → Undoes f g
 undoes_both f g there back i j = (there i j, back j i)
 
--- A join of an end and a start.
 pub join_undoes : (f g : ℕ → Option ℕ) (a b : ℕ) → Undoes f g → f a ≡ None → g b ≡ None → Undoes (altered f a (Some b)) (altered g b (Some a))
 join_undoes f g a b each none_after none_before =
     undoes_both (altered f a (Some b)) (altered g b (Some a))
     (join_returns f g a b (λ i j. (each i j).0) none_before)
     (join_returns g f b a (λ i j. (each j i).1) none_after)
 
--- A cut of a pair.
 pub cut_undoes : (f g : ℕ → Option ℕ) (a b : ℕ) → Undoes f g → f a ≡ Some b → Undoes (altered f a None) (altered g b None)
 cut_undoes f g a b each pair =
     undoes_both (altered f a None) (altered g b None)
     (cut_returns f g a b (λ i j. (each i j).0) (λ i j. (each j i).1) pair)
     (cut_returns g f b a (λ i j. (each j i).1) (λ i j. (each i j).0) ((each a b).0 pair))
 
--- Functions equal to f and g at each index.
 pub Undoes-at : (f g h k : ℕ → Option ℕ) → ((i : ℕ) → h i ≡ f i) → ((i : ℕ) → k i ≡ g i) → Undoes f g → Undoes h k
 Undoes-at f g h k same_after same_before each i j =
     (λ e. same_before j ∙ (each i j).0 (sym (same_after i) ∙ e), λ e. same_after i ∙ (each i j).1 (sym (same_before j) ∙ e))

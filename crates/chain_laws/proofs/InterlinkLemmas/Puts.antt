@@ -21,7 +21,6 @@ pub record IsOpenPlace (f : ℕ → Option ℕ) (q : ℕ) (u v : Option ℕ) : T
 abbrev pub IsPairAround : (ℕ → Option ℕ) → ℕ → Option ℕ → Option ℕ → ℕ → ℕ → Type 0
 IsPairAround f q u v i j = ((f i ≡ Some j) × ((u ≡ Some i) × (v ≡ Some j) → ⊥)) ⊎ ((u ≡ Some i) × (j ≡ q)) ⊎ ((i ≡ q) × (v ≡ Some j))
 
--- The pairs with q between u and v.
 pub puts_pairs : (f h : ℕ → Option ℕ) (q : ℕ) (u v : Option ℕ) → IsOpenPlace f q u v → Puts f h q u v
     → (i j : ℕ) → (h i ≡ Some j) ↔ IsPairAround f q u v i j
 puts_pairs f h q u v can puts i j = (λ e. by e (cases_eq i q) (names_or_not u i), λ p. back p (cases_eq i q))
@@ -38,13 +37,11 @@ puts_pairs f h q u v can puts i j = (λ e. by e (cases_eq i q) (names_or_not u i
     back (inr (inl p)) (inr ne) = puts.before i ne p.0 ∙ sym (ap Some p.1)
     back (inr (inr p)) _ = ap h p.0 ∙ puts.here ∙ p.1
 
--- The same pair in the other direction.
 pair_around_back : (f g : ℕ → Option ℕ) (q : ℕ) (u v : Option ℕ) (i j : ℕ) → Undoes f g → IsPairAround f q u v i j → IsPairAround g q v u j i
 pair_around_back f g q u v i j each (inl p) = inl ((each i j).0 p.0, λ s. p.1 (s.1, s.0))
 pair_around_back f g q u v i j each (inr (inl p)) = inr (inr (p.1, p.0))
 pair_around_back f g q u v i j each (inr (inr p)) = inr (inl (p.1, p.0))
 
--- Inverse functions stay inverse with q put between.
 pub puts_undo : (f g h k : ℕ → Option ℕ) (q : ℕ) (u v : Option ℕ) → Undoes f g → IsOpenPlace f q u v → IsOpenPlace g q v u
     → Puts f h q u v → Puts g k q v u → Undoes h k
 puts_undo f g h k q u v each capacity_after capacity_before forward back i j =

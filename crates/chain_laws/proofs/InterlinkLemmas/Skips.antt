@@ -14,7 +14,6 @@ pub record Skips (f h : ℕ → Option ℕ) (q : ℕ) : Type 0 where
 abbrev pub IsPairPast : (ℕ → Option ℕ) → (ℕ → Option ℕ) → ℕ → ℕ → ℕ → Type 0
 IsPairPast f g q i j = ((f i ≡ Some j) × (i ≢ q) × (j ≢ q)) ⊎ ((g q ≡ Some i) × (f q ≡ Some j) × (i ≢ q) × (j ≢ q))
 
--- An optional index is q or not.
 pub names_or_not : (o : Option ℕ) (q : ℕ) → (o ≡ Some q) ⊎ (o ≢ Some q)
 names_or_not None q = inr (λ e. cc)
 names_or_not (Some k) q = by (cases_eq k q)
@@ -23,7 +22,6 @@ names_or_not (Some k) q = by (cases_eq k q)
     by (inl e) = inl (ap Some e)
     by (inr ne) = inr (λ e. ne (one_some e))
 
--- The pairs without q.
 pub skips_pairs : (f g h : ℕ → Option ℕ) (q : ℕ) → Undoes f g → Skips f h q → (i j : ℕ) → (h i ≡ Some j) ↔ IsPairPast f g q i j
 skips_pairs f g h q each skips i j = (λ e. by e (cases_eq i q) (names_or_not (f i) q), back)
   where
@@ -41,16 +39,13 @@ skips_pairs f g h q each skips i j = (λ e. by e (cases_eq i q) (names_or_not (f
     back (inl p) = skips.elsewhere i p.1 (λ e. p.2 (one_some (sym p.0 ∙ e))) ∙ p.0
     back (inr p) = skips.past i p.2 ((each i q).1 p.0) ∙ p.1
 
--- The same pair in the other direction.
 pair_past_back : (f g : ℕ → Option ℕ) (q i j : ℕ) → Undoes f g → IsPairPast f g q i j → IsPairPast g f q j i
 pair_past_back f g q i j each (inl p) = inl ((each i j).0 p.0, p.2, p.1)
 pair_past_back f g q i j each (inr p) = inr (p.1, p.0, p.3, p.2)
 
--- Inverse functions in the other direction.
 pub undoes_back : (f g : ℕ → Option ℕ) → Undoes f g → Undoes g f
 undoes_back f g each i j = ((each j i).1, (each j i).0)
 
--- Inverse functions stay inverse without q.
 pub skips_undo : (f g h k : ℕ → Option ℕ) (q : ℕ) → Undoes f g → Skips f h q → Skips g k q → Undoes h k
 skips_undo f g h k q each forward back i j =
     let after = skips_pairs f g h q each forward i j in

@@ -11,15 +11,12 @@ use Rattle.chain_laws.proofs.JoinLemmas.Lists.{IsOutside, IsOutside-Some, AreLin
 use Rattle.chain_laws.proofs.ChainLemmas.Uniqueness.{chain_closed, reaches_first}
 use Rattle.chain_laws.proofs.ListLemmas.Members.{IsMember-middle, IsMember-filled, AreDistinct-append, last_or-append}
 
--- Each `next` once b comes after a.
 pub next_of-joined : (link_map : LinkMap) (a b : ℕ) → HasLink link_map a → (j : ℕ) → next_of (with_join link_map a b) j ≡ altered (next_of link_map) a (Some b) j
 next_of-joined link_map a b valid j = next_of-linked link_map (Some a) (Some b) j (IsValidAt-Some link_map a valid)
 
--- Each `prev` once b comes after a.
 pub prev_of-joined : (link_map : LinkMap) (a b : ℕ) → HasLink link_map b → (j : ℕ) → prev_of (with_join link_map a b) j ≡ altered (prev_of link_map) b (Some a) j
 prev_of-joined link_map a b valid j = prev_of-linked link_map (Some a) (Some b) j (IsValidAt-Some link_map b valid)
 
--- After a join of an end and a start the interlinks agree.
 pub joined_agrees : (link_map : LinkMap) (a b : ℕ) → IsWellLinked link_map → AreEndAndStart link_map a b → IsWellLinked (with_join link_map a b)
 joined_agrees link_map a b agrees ends =
     record {
@@ -28,7 +25,6 @@ joined_agrees link_map a b agrees ends =
           (join_undoes (next_of link_map) (prev_of link_map) a b agrees.both ends.end ends.start);
     }
 
--- A join adds its pair and no other.
 pub joined_adds_a_pair : (link_map : LinkMap) (a b : ℕ) → AreEndAndStart link_map a b → AddsPair link_map (with_join link_map a b) a b
 joined_adds_a_pair link_map a b ends =
     record {
@@ -49,7 +45,6 @@ joined_adds_a_pair link_map a b ends =
         next_of-joined link_map a b ends.valid_end i ∙ altered-other (next_of link_map) a (Some b) i ne ∙ e
     back i j (inr (s, t)) = next_of-joined link_map a b ends.valid_end i ∙ altered-same (next_of link_map) a (Some b) i s ∙ ap Some (sym t)
 
--- Two chains become one, written one after the other.
 pub joined_two : (link_map : LinkMap) (a b : ℕ) (x y : List ℕ) → IsChain link_map (linear (x ++ a ∷ [])) → IsChain link_map (linear (b ∷ y)) → (IsMember (x ++ a ∷ []) b → ⊥)
     → IsChain (with_join link_map a b) (linear ((x ++ a ∷ []) ++ b ∷ y))
 joined_two link_map a b x y left right none =
@@ -63,12 +58,10 @@ joined_two link_map a b x y left right none =
     (IsOutside-Some b xs none) left.2 right.2 in
     (IsMember-filled (xs ++ b ∷ y) b (IsMember-middle xs y b), AreDistinct-append xs (b ∷ y) left.1 right.1 apart, subst (λ u. AreLinked (with_neighbors link_map u (Some b)) None (xs ++ b ∷ y) None) ends glued)
 
--- One chain becomes cyclic.
 pub joined_one : (link_map : LinkMap) (a b : ℕ) (xs : List ℕ) → IsChain link_map (linear xs) → first_or xs None ≡ Some b → last_or xs None ≡ Some a → IsChain (with_join link_map a b) (cyclic xs)
 joined_one link_map a b xs chain starts ends =
     (chain.0, chain.1, subst₂ (λ u v. AreLinked (with_neighbors link_map u v) (last_or xs None) xs (first_or xs None)) ends starts (AreLinked-ringed link_map None xs None chain.1 chain.2))
 
--- A join connects the chain that ends in a with the chain that starts with b.
 pub joined_connects : (link_map : LinkMap) (a b : ℕ) → Connects link_map (with_join link_map a b) a b
 joined_connects link_map a b =
     record {

@@ -12,30 +12,24 @@ use Rattle.chain_laws.proofs.InterlinkLemmas.Inverses.{one_some}
 abbrev pub IsOutside : Option ℕ → List ℕ → Type 0
 IsOutside u xs = (i : ℕ) → u ≡ Some i → IsMember xs i → ⊥
 
--- No item is an index outside the list.
 IsElsewhere-item : (u : Option ℕ) (xs : List ℕ) (j : ℕ) → IsOutside u xs → IsMember xs j → IsElsewhere u j
 IsElsewhere-item u xs j apart h i named e = apart i named (subst (IsMember xs) e h)
 
--- A list without u stays linked when `next` of u is written.
 pub AreLinked-with_next_at : (link_map : LinkMap) (u v before : Option ℕ) (xs : List ℕ) (after : Option ℕ) → IsOutside u xs → AreLinked link_map before xs after → AreLinked (with_next_at link_map u v) before xs after
 AreLinked-with_next_at link_map u v before xs after apart stored =
     AreLinked-frame link_map (with_next_at link_map u v) before xs after (λ i h. sym (with_next_at-elsewhere link_map u v i (IsElsewhere-item u xs i apart h))) stored
 
--- A list without u stays linked when `prev` of u is written.
 pub AreLinked-with_prev_at : (link_map : LinkMap) (u v before : Option ℕ) (xs : List ℕ) (after : Option ℕ) → IsOutside u xs → AreLinked link_map before xs after → AreLinked (with_prev_at link_map u v) before xs after
 AreLinked-with_prev_at link_map u v before xs after apart stored =
     AreLinked-frame link_map (with_prev_at link_map u v) before xs after (λ i h. sym (with_prev_at-elsewhere link_map u v i (IsElsewhere-item u xs i apart h))) stored
 
--- Linking u and v leaves a list with neither unchanged.
 linked-outside : (link_map : LinkMap) (u v : Option ℕ) (xs : List ℕ) → IsOutside u xs → IsOutside v xs → (i : ℕ) → IsMember xs i → with_neighbors link_map u v i ≡ link_map i
 linked-outside link_map u v xs apart_u apart_v i h = linked-elsewhere link_map u v i (IsElsewhere-item u xs i apart_u h) (IsElsewhere-item v xs i apart_v h)
 
--- A list with neither u nor v stays linked.
 pub AreLinked-linked : (link_map : LinkMap) (u v before : Option ℕ) (xs : List ℕ) (after : Option ℕ) → IsOutside u xs → IsOutside v xs → AreLinked link_map before xs after → AreLinked (with_neighbors link_map u v) before xs after
 AreLinked-linked link_map u v before xs after apart_u apart_v stored =
     AreLinked-frame link_map (with_neighbors link_map u v) before xs after (λ i h. sym (linked-outside link_map u v xs apart_u apart_v i h)) stored
 
--- An item before others is not the last one.
 last_beyond : (x y : ℕ) (ys : List ℕ) → (IsMember (y ∷ ys) x → ⊥) → IsElsewhere (last_or ys (Some y)) x
 last_beyond x y ys none i named e =
     ⊎_elim
@@ -43,7 +37,6 @@ last_beyond x y ys none i named e =
     (λ s. none (inl (one_some s ∙ sym e)))
     (last_or-IsMember ys (Some y) i named)
 
--- v after the last item comes after the list.
 pub AreLinked-next_of_last : (link_map : LinkMap) (v before : Option ℕ) (xs : List ℕ) (after : Option ℕ) → AreDistinct xs → AreLinked link_map before xs after
     → AreLinked (with_next_at link_map (last_or xs before) v) before xs v
 AreLinked-next_of_last link_map v before [] after once stored = tt
@@ -51,14 +44,12 @@ AreLinked-next_of_last link_map v before (x ∷ []) after once stored = (with_ne
 AreLinked-next_of_last link_map v before (x ∷ y ∷ ys) after once stored =
     (with_next_at-elsewhere link_map (last_or ys (Some y)) v x (last_beyond x y ys once.0) ∙ stored.0, AreLinked-next_of_last link_map v (Some x) (y ∷ ys) after once.1 stored.1)
 
--- u before the first item comes before the list.
 pub AreLinked-prev_of_first : (link_map : LinkMap) (u before : Option ℕ) (xs : List ℕ) (after : Option ℕ) → AreDistinct xs → AreLinked link_map before xs after
     → AreLinked (with_prev_at link_map (first_or xs after) u) u xs after
 AreLinked-prev_of_first link_map u before [] after once stored = tt
 AreLinked-prev_of_first link_map u before (x ∷ xs) after once stored =
     (with_prev_at-at link_map x u _ stored.0, AreLinked-with_prev_at link_map (Some x) u (Some x) xs after (λ i named h. once.0 (subst (IsMember xs) (sym (one_some named)) h)) stored.1)
 
--- Two lists joined at an end and a start are one.
 pub AreLinked-glued : (link_map : LinkMap) (before : Option ℕ) (xs : List ℕ) (xs_after ys_before : Option ℕ) (ys : List ℕ) (after : Option ℕ)
     → AreDistinct xs → AreDistinct ys → IsOutside (last_or xs before) ys → IsOutside (first_or ys after) xs
     → AreLinked link_map before xs xs_after → AreLinked link_map ys_before ys after
@@ -70,7 +61,6 @@ AreLinked-glued link_map before xs xs_after ys_before ys after xs_once ys_once l
     (AreLinked-with_prev_at (with_next_at link_map u v) v u before xs v first_apart (AreLinked-next_of_last link_map v before xs xs_after xs_once xs_stored))
     (AreLinked-prev_of_first (with_next_at link_map u v) u ys_before ys after ys_once (AreLinked-with_next_at link_map u v ys_before ys after last_apart ys_stored))
 
--- A list whose end is linked to its start is a ring.
 pub AreLinked-ringed : (link_map : LinkMap) (before : Option ℕ) (xs : List ℕ) (after : Option ℕ) → AreDistinct xs → AreLinked link_map before xs after
     → AreLinked (with_neighbors link_map (last_or xs None) (first_or xs None)) (last_or xs None) xs (first_or xs None)
 AreLinked-ringed link_map before [] after once stored = tt
@@ -78,13 +68,11 @@ AreLinked-ringed link_map before (x ∷ xs) after once stored =
     let u = last_or xs (Some x) in
     AreLinked-prev_of_first (with_next_at link_map u (Some x)) u before (x ∷ xs) (Some x) once (AreLinked-next_of_last link_map (Some x) before (x ∷ xs) after once stored)
 
--- Linking leaves the chains with neither u nor v unchanged.
 pub IsChain-linked : (link_map : LinkMap) (u v : Option ℕ) (c : Chain) → IsOutside u (items c) → IsOutside v (items c) → IsChain link_map c ↔ IsChain (with_neighbors link_map u v) c
 IsChain-linked link_map u v c apart_u apart_v = (
   IsChain-frame link_map (with_neighbors link_map u v) c (λ i h. sym (linked-outside link_map u v (items c) apart_u apart_v i h)),
   IsChain-frame (with_neighbors link_map u v) link_map c (linked-outside link_map u v (items c) apart_u apart_v),
 )
 
--- An index that a list lacks is outside it.
 pub IsOutside-Some : (i : ℕ) (xs : List ℕ) → (IsMember xs i → ⊥) → IsOutside (Some i) xs
 IsOutside-Some i xs none k e h = none (subst (IsMember xs) (sym (one_some e)) h)

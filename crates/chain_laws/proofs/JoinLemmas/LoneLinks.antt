@@ -8,29 +8,24 @@ use Rattle.chain_laws.proofs.InterlinkLemmas.Inverses.{if_same, if_other}
 use Rattle.chain_laws.proofs.ChainLemmas.LinkedLists.{link, AreLinked-frame, IsChain-frame}
 use Rattle.chain_laws.proofs.InterlinkLemmas.Linked.{HasLink-same}
 
--- The new link names no other.
 pub with_lone-at : (link_map : LinkMap) (q j : ℕ) → j ≡ q → with_lone link_map q j ≡ Some (link None None)
 with_lone-at link_map q j e = if_same j q (Some (link None None)) (link_map j) e
 
--- Another index is unchanged.
 pub with_lone-elsewhere : (link_map : LinkMap) (q j : ℕ) → j ≢ q → with_lone link_map q j ≡ link_map j
 with_lone-elsewhere link_map q j ne = if_other j q (Some (link None None)) (link_map j) ne
 
--- Each `next` is unchanged.
 pub next_of-with_lone : (link_map : LinkMap) (q : ℕ) → link_map q ≡ None → (j : ℕ) → next_of (with_lone link_map q) j ≡ next_of link_map j
 next_of-with_lone link_map q free j = ⊎_elim
     (λ e. ap next_in (with_lone-at link_map q j e) ∙ sym (ap next_in (ap link_map e ∙ free)))
     (λ ne. ap next_in (with_lone-elsewhere link_map q j ne))
     (cases_eq j q)
 
--- Each `prev` is unchanged.
 pub prev_of-with_lone : (link_map : LinkMap) (q : ℕ) → link_map q ≡ None → (j : ℕ) → prev_of (with_lone link_map q) j ≡ prev_of link_map j
 prev_of-with_lone link_map q free j = ⊎_elim
     (λ e. ap prev_in (with_lone-at link_map q j e) ∙ sym (ap prev_in (ap link_map e ∙ free)))
     (λ ne. ap prev_in (with_lone-elsewhere link_map q j ne))
     (cases_eq j q)
 
--- After a new lone link the interlinks agree.
 pub with_lone_agrees : (link_map : LinkMap) (q : ℕ) → link_map q ≡ None → IsWellLinked link_map → IsWellLinked (with_lone link_map q)
 with_lone_agrees link_map q free agrees =
     record {
@@ -40,11 +35,9 @@ with_lone_agrees link_map q free agrees =
       );
     }
 
--- The items of a list without q are unchanged.
 reports_same : (link_map : LinkMap) (q : ℕ) (xs : List ℕ) → (IsMember xs q → ⊥) → (i : ℕ) → IsMember xs i → with_lone link_map q i ≡ link_map i
 reports_same link_map q xs none i h = with_lone-elsewhere link_map q i (λ e. none (subst (IsMember xs) e h))
 
--- The linked lists without q are unchanged.
 pub AreLinked-with_lone : (link_map : LinkMap) (q : ℕ) (before : Option ℕ) (xs : List ℕ) (after : Option ℕ) → (IsMember xs q → ⊥)
     → AreLinked link_map before xs after ↔ AreLinked (with_lone link_map q) before xs after
 AreLinked-with_lone link_map q before xs after none = (
@@ -52,14 +45,12 @@ AreLinked-with_lone link_map q before xs after none = (
   AreLinked-frame (with_lone link_map q) link_map before xs after (reports_same link_map q xs none),
 )
 
--- The chains without q are unchanged.
 pub IsChain-with_lone : (link_map : LinkMap) (q : ℕ) (c : Chain) → (IsMember (items c) q → ⊥) → IsChain link_map c ↔ IsChain (with_lone link_map q) c
 IsChain-with_lone link_map q c none = (
   IsChain-frame link_map (with_lone link_map q) c (λ i h. sym (reports_same link_map q (items c) none i h)),
   IsChain-frame (with_lone link_map q) link_map c (reports_same link_map q (items c) none),
 )
 
--- q is the only index that becomes valid.
 pub HasLink-with_lone : (link_map : LinkMap) (q i : ℕ) → HasLink (with_lone link_map q) i ↔ (HasLink link_map i ⊎ (i ≡ q))
 HasLink-with_lone link_map q i = (
   λ h. ⊎_elim
@@ -75,7 +66,6 @@ HasLink-with_lone link_map q i = (
       h,
 )
 
--- A lone link is added to the chains.
 pub with_lone_adds : (link_map : LinkMap) (q : ℕ) → link_map q ≡ None → AddsLone link_map (with_lone link_map q) q
 with_lone_adds link_map q free =
     record {

@@ -5,15 +5,12 @@ use Rattle.chain_laws.specs.Members.{MemberInJoin, MemberInRotation, MemberInMid
 use Rattle.chain_laws.proofs.ListLemmas.Members.{IsMember-left, IsMember-right, IsMember-parts, IsMember-middle, IsMember-rotated, IsMember-written, IsMember-filled, filled-IsMember}
 use Rattle.chain_laws.proofs.ListLemmas.Members.{AreDistinct-left, AreDistinct-right, AreDistinct-apart, AreDistinct-append, AreDistinct-rotated}
 
--- The members of two lists written as one.
 pub member_in_join : MemberInJoin
 member_in_join xs ys i = (IsMember-parts xs ys i, ⊎_elim (IsMember-left xs ys i) (IsMember-right xs ys i))
 
--- The members of two lists in either order.
 pub member_in_rotation : MemberInRotation
 member_in_rotation xs ys i = (IsMember-rotated xs ys i, IsMember-rotated ys xs i)
 
--- An item between two lists.
 pub member_in_middle : MemberInMiddle
 member_in_middle [] ys x i = (⊎_elim (λ e. inl (sym e)) (λ h. inr h), ⊎_elim (λ e. inl (sym e)) (λ h. inr h))
 member_in_middle (y ∷ xs) ys x i =
@@ -22,7 +19,6 @@ member_in_middle (y ∷ xs) ys x i =
       ⊎_elim (λ e. inr (rest.1 (inl e))) (⊎_elim (λ e. inl e) (λ h. inr (rest.1 (inr h)))),
     )
 
--- An item inserted after another one.
 pub member_after_item : MemberAfterItem
 member_after_item [] ys a x i = (
   ⊎_elim (λ e. inr (inl e)) (⊎_elim (λ e. inl (sym e)) (λ h. inr (inr h))),
@@ -34,26 +30,21 @@ member_after_item (y ∷ xs) ys a x i =
       ⊎_elim (λ e. inr (rest.1 (inl e))) (⊎_elim (λ e. inl e) (λ h. inr (rest.1 (inr h)))),
     )
 
--- The members of a list are the items it is written around.
 pub has_is_written : MembersSplitAList
 has_is_written xs i = (IsMember-written xs i, λ w. subst (λ (zs : List ℕ). IsMember zs i) (sym w.2) (IsMember-middle w.0 w.1 i))
 
--- Non-empty lists are those with a member.
 pub member_is_filled : MemberIsFilled
 member_is_filled xs = (filled-IsMember xs, λ w. IsMember-filled xs w.0 w.1)
 
--- Two lists written as one are distinct exactly if each is and they are disjoint.
 pub once_in_join : OnceInJoin
 once_in_join xs ys = (
   λ once. (AreDistinct-left xs ys once, AreDistinct-right xs ys once, λ i. AreDistinct-apart xs ys i once),
   λ parts. AreDistinct-append xs ys parts.0 parts.1 parts.2,
 )
 
--- Two lists are distinct in either order.
 pub once_in_turn : OnceInRotation
 once_in_turn xs ys = (AreDistinct-rotated xs ys, AreDistinct-rotated ys xs)
 
--- A distinct list with x in its middle: the rest is distinct and lacks x.
 pub once_in_middle : OnceInMiddle
 once_in_middle xs ys x = (
   λ once. let front = AreDistinct-rotated xs (x ∷ ys) once in (λ h. front.0 (IsMember-rotated xs ys x h), AreDistinct-rotated ys xs front.1),

@@ -5,18 +5,15 @@ use Rattle.std.proofs.lemmas.Map.Steps.{length-le_from_distinct_below}
 use Rattle.std.proofs.Math.Decide.{ℕ_discrete}
 use Rattle.chain_laws.specs.Chains.{IsMember, AreDistinct, first_or, last_or}
 
--- A list has the members of its left part.
 pub IsMember-left : (xs ys : List ℕ) (y : ℕ) → IsMember xs y → IsMember (xs ++ ys) y
 IsMember-left [] ys y h = elim h [ ]
 IsMember-left (x ∷ xs) ys y (inl e) = inl e
 IsMember-left (x ∷ xs) ys y (inr h) = inr (IsMember-left xs ys y h)
 
--- A list has the members of its right part.
 pub IsMember-right : (xs ys : List ℕ) (y : ℕ) → IsMember ys y → IsMember (xs ++ ys) y
 IsMember-right [] ys y h = h
 IsMember-right (x ∷ xs) ys y h = inr (IsMember-right xs ys y h)
 
--- A member of a list is in one of its parts.
 pub IsMember-parts : (xs ys : List ℕ) (y : ℕ) → IsMember (xs ++ ys) y → IsMember xs y ⊎ IsMember ys y
 IsMember-parts [] ys y h = inr h
 IsMember-parts (x ∷ xs) ys y (inl e) = inl (inl e)
@@ -26,11 +23,9 @@ IsMember-parts (x ∷ xs) ys y (inr h) = widen (IsMember-parts xs ys y h)
     widen (inl l) = inl (inr l)
     widen (inr r) = inr r
 
--- A list has the item in its middle.
 pub IsMember-middle : (xs ys : List ℕ) (y : ℕ) → IsMember (xs ++ y ∷ ys) y
 IsMember-middle xs ys y = IsMember-right xs (y ∷ ys) y (inl refl)
 
--- The two parts in the other order have the same members.
 pub IsMember-rotated : (xs ys : List ℕ) (y : ℕ) → IsMember (xs ++ ys) y → IsMember (ys ++ xs) y
 IsMember-rotated xs ys y h = rotation_of (IsMember-parts xs ys y h)
   where
@@ -38,7 +33,6 @@ IsMember-rotated xs ys y h = rotation_of (IsMember-parts xs ys y h)
     rotation_of (inl l) = IsMember-right ys xs y l
     rotation_of (inr r) = IsMember-left ys xs y r
 
--- A list that has y is written around it.
 pub IsMember-written : (xs : List ℕ) (y : ℕ) → IsMember xs y → (before : List ℕ) × (after : List ℕ) × (xs ≡ before ++ y ∷ after)
 IsMember-written [] y h = elim h [ ]
 IsMember-written (x ∷ xs) y (inl e) = ([], xs, ap (λ (z : ℕ). z ∷ xs) e)
@@ -46,7 +40,6 @@ IsMember-written (x ∷ xs) y (inr h) =
     let w = IsMember-written xs y h in
     (x ∷ w.0, w.1, ap (λ (zs : List ℕ). x ∷ zs) w.2)
 
--- A list has y or does not have it.
 pub IsMember-or_not : (xs : List ℕ) (y : ℕ) → IsMember xs y ⊎ (IsMember xs y → ⊥)
 IsMember-or_not [] y = inr (λ h. h)
 IsMember-or_not (x ∷ xs) y = by_first (ℕ_discrete x y) (IsMember-or_not xs y)
@@ -56,12 +49,10 @@ IsMember-or_not (x ∷ xs) y = by_first (ℕ_discrete x y) (IsMember-or_not xs y
     by_first (no n) (inl h) = inl (inr h)
     by_first (no n) (inr h) = inr (⊎_elim n h)
 
--- The first item is a member, unless the list is empty.
 pub first_or-IsMember : (xs : List ℕ) (after : Option ℕ) (a : ℕ) → first_or xs after ≡ Some a → IsMember xs a ⊎ (after ≡ Some a)
 first_or-IsMember [] after a e = inr e
 first_or-IsMember (x ∷ xs) after a e = inl (inl (cc))
 
--- The last item is a member, unless the list is empty.
 pub last_or-IsMember : (xs : List ℕ) (before : Option ℕ) (a : ℕ) → last_or xs before ≡ Some a → IsMember xs a ⊎ (before ≡ Some a)
 last_or-IsMember [] before a e = inr e
 last_or-IsMember (x ∷ xs) before a e = widen (last_or-IsMember xs (Some x) a e)
@@ -70,17 +61,14 @@ last_or-IsMember (x ∷ xs) before a e = widen (last_or-IsMember xs (Some x) a e
     widen (inl h) = inl (inr h)
     widen (inr s) = inl (inl (cc))
 
--- The first of two lists, one after the other.
 pub first_or-append : (xs ys : List ℕ) (after : Option ℕ) → first_or (xs ++ ys) after ≡ first_or xs (first_or ys after)
 first_or-append [] ys after = refl
 first_or-append (x ∷ xs) ys after = refl
 
--- The last of two lists, one after the other.
 pub last_or-append : (xs ys : List ℕ) (before : Option ℕ) → last_or (xs ++ ys) before ≡ last_or ys (last_or xs before)
 last_or-append [] ys before = refl
 last_or-append (x ∷ xs) ys before = last_or-append xs ys (Some x)
 
--- A list with an item has a last one.
 pub last_or-filled : (xs : List ℕ) (y : ℕ) → IsMember xs y → (last : ℕ) × ((before : Option ℕ) → last_or xs before ≡ Some last)
 last_or-filled [] y h = elim h [ ]
 last_or-filled (x ∷ []) y h = (x, λ before. refl)
@@ -88,33 +76,27 @@ last_or-filled (x ∷ z ∷ xs) y h =
     let l = last_or-filled (z ∷ xs) z (inl refl) in
     (l.0, λ before. l.1 (Some x))
 
--- A list with a member is not empty.
 pub IsMember-filled : (xs : List ℕ) (y : ℕ) → IsMember xs y → xs ≢ []
 IsMember-filled [] y h = elim h [ ]
 IsMember-filled (x ∷ xs) y h = λ e. cc
 
--- A list that is not empty has an item.
 pub filled-IsMember : (xs : List ℕ) → xs ≢ [] → (x : ℕ) × IsMember xs x
 filled-IsMember [] filled = absurd (filled refl)
 filled-IsMember (x ∷ xs) filled = (x, inl refl)
 
--- The left part of a distinct list is distinct.
 pub AreDistinct-left : (xs ys : List ℕ) → AreDistinct (xs ++ ys) → AreDistinct xs
 AreDistinct-left [] ys once = tt
 AreDistinct-left (x ∷ xs) ys once = (λ h. once.0 (IsMember-left xs ys x h), AreDistinct-left xs ys once.1)
 
--- The right part of a distinct list is distinct.
 pub AreDistinct-right : (xs ys : List ℕ) → AreDistinct (xs ++ ys) → AreDistinct ys
 AreDistinct-right [] ys once = once
 AreDistinct-right (x ∷ xs) ys once = AreDistinct-right xs ys once.1
 
--- The two parts of a distinct list are disjoint.
 pub AreDistinct-apart : (xs ys : List ℕ) (y : ℕ) → AreDistinct (xs ++ ys) → IsMember xs y → IsMember ys y → ⊥
 AreDistinct-apart [] ys y once h k = h
 AreDistinct-apart (x ∷ xs) ys y once (inl e) k = once.0 (IsMember-right xs ys x (subst (IsMember ys) (sym e) k))
 AreDistinct-apart (x ∷ xs) ys y once (inr h) k = AreDistinct-apart xs ys y once.1 h k
 
--- Two distinct, disjoint lists are distinct as one.
 pub AreDistinct-append : (xs ys : List ℕ) → AreDistinct xs → AreDistinct ys → ((y : ℕ) → IsMember xs y → IsMember ys y → ⊥) → AreDistinct (xs ++ ys)
 AreDistinct-append [] ys once others apart = others
 AreDistinct-append (x ∷ xs) ys once others apart =
@@ -124,12 +106,10 @@ AreDistinct-append (x ∷ xs) ys once others apart =
     by_part (inl h) = once.0 h
     by_part (inr k) = apart x (inl refl) k
 
--- The two parts in the other order are distinct too.
 pub AreDistinct-rotated : (xs ys : List ℕ) → AreDistinct (xs ++ ys) → AreDistinct (ys ++ xs)
 AreDistinct-rotated xs ys once =
     AreDistinct-append ys xs (AreDistinct-right xs ys once) (AreDistinct-left xs ys once) (λ y h k. AreDistinct-apart xs ys y once k h)
 
--- An index is at one place of a distinct list.
 pub written_once : (before after others rest : List ℕ) (a : ℕ) → AreDistinct (before ++ a ∷ after) → before ++ a ∷ after ≡ others ++ a ∷ rest
     → (before ≡ others) × (after ≡ rest)
 written_once [] after [] rest a once e = (refl, cc)
@@ -146,7 +126,6 @@ written_once (b ∷ before) after (o ∷ others) rest a once e =
     let more = written_once before after others rest a once.1 tail in
     (cc more.0, more.1)
 
--- Distinct numbers, by an equality test.
 distinct : (xs : List ℕ) → AreDistinct xs → IsDistinct eqb xs
 unfolding IsDistinct
 distinct [] once = tt
@@ -156,7 +135,6 @@ distinct (x ∷ xs) once = (differs x xs once.0, distinct xs once.1)
     differs x [] apart = tt
     differs x (y ∷ ys) apart = (ne_eqb x y (λ e. apart (inl (sym e))), differs x ys (λ h. apart (inr h)))
 
--- A list has what a search through it finds.
 any_member : (xs : List ℕ) (q : ℕ) → list_any (eqb q) xs ≡ true → IsMember xs q
 any_member [] q e = absurd (cc)
 any_member (x ∷ xs) q e = by_test (eqb q x) refl e (any_member xs q)
@@ -165,7 +143,6 @@ any_member (x ∷ xs) q e = by_test (eqb q x) refl e (any_member xs q)
     by_test true is t rest = inl (sym (eqb-true q x is))
     by_test false is t rest = inr (rest t)
 
--- At most n distinct numbers are from 1 to n.
 pub length_bound : (xs : List ℕ) (n : ℕ) → AreDistinct xs → ((i : ℕ) → IsMember xs i → (1 ≤ i) × (i ≤ n)) → length xs ≤ n
 length_bound xs n once within =
     let all = length-le_from_distinct_below (0 ∷ xs) (suc n) (distinct (0 ∷ xs) (zero_apart, once)) below in
@@ -182,7 +159,6 @@ length_bound xs n once within =
     below : (q : ℕ) → list_any (eqb q) (0 ∷ xs) ≡ true → q < suc n
     below q e = below_of q (any_member (0 ∷ xs) q e)
 
--- A list with an item has a last one.
 pub last_apart : (x : ℕ) (xs : List ℕ) → (before : List ℕ) × (k : ℕ) × (x ∷ xs ≡ before ++ k ∷ [])
 last_apart x [] = ([], x, refl)
 last_apart x (y ∷ ys) =

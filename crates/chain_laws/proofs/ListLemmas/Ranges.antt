@@ -7,7 +7,6 @@ use Rattle.chain_laws.specs.Arrangements.{in_runs}
 use Rattle.chain_laws.specs.ChainStart.{chain_of}
 use Rattle.chain_laws.proofs.RenamingLemmas.ChainRuns.{range_with_len-append}
 
--- The members of a run.
 pub IsMember-range : (k n i : ℕ) → IsMember (range_with_len k n) i → (k ≤ i) × (i < k + n)
 IsMember-range k zero i h = absurd h
 IsMember-range k (suc n) i (inl e) = (omega (arith, e), omega (arith, e))
@@ -25,11 +24,9 @@ pub AreDistinct-range : (k n : ℕ) → AreDistinct (range_with_len k n)
 AreDistinct-range k zero = tt
 AreDistinct-range k (suc n) = ((λ h. let w = IsMember-range (k + 1) n k h in omega (arith, w.0)), AreDistinct-range (k + 1) n)
 
--- The last index of a run.
 pub range_last : (k n : ℕ) → range_with_len k (n + 1) ≡ range_with_len k n ++ (k + n) ∷ []
 range_last k n = sym (range_with_len-append k n 1)
 
--- Runs, one after another.
 pub in_runs-append : (k : ℕ) (chains others : List Chain) → in_runs k (chains ++ others) ≡ in_runs k chains ++ in_runs (k + length (all_items chains)) others
 in_runs-append k [] others = ap (λ (m : ℕ). in_runs m others) (let e : k ≡ k + 0 = omega arith in e)
 in_runs-append k (linear xs ∷ chains) others =
@@ -45,7 +42,6 @@ in_runs-append k (cyclic xs ∷ chains) others =
     behind : (xs : List ℕ) → (k + length xs) + length (all_items chains) ≡ k + length (xs ++ all_items chains)
     behind xs = let e : length (xs ++ all_items chains) ≡ length xs + length (all_items chains) = length-append xs (all_items chains) in omega arith
 
--- The run of one chain.
 pub one_run : (k : ℕ) (ring : Bool) (xs : List ℕ) → in_runs k (chain_of ring xs ∷ []) ≡ chain_of ring (range_with_len k (length xs)) ∷ []
 one_run k false xs = refl
 one_run k true xs = refl

@@ -11,24 +11,19 @@ use Rattle.chain_laws.proofs.ChainLemmas.Rotations.{rotated}
 use Rattle.chain_laws.proofs.JoinLemmas.Lists.{IsOutside, AreLinked-glued, AreLinked-ringed, IsChain-linked}
 use Rattle.chain_laws.proofs.RemovalLemmas.Pairs.{vacated-elsewhere, HasLink-removed, removed_unnamed}
 
--- The items of a list without q are unchanged.
 reports_without : (link_map : LinkMap) (q : ℕ) (xs : List ℕ) → (IsMember xs q → ⊥) → (i : ℕ) → IsMember xs i → link_map i ≡ without_link link_map q i
 reports_without link_map q xs none i h = sym (vacated-elsewhere link_map q i (λ e. none (subst (IsMember xs) e h)))
 
--- A list without q stays linked once q is free.
 pub AreLinked-vacated : (link_map : LinkMap) (q : ℕ) (before : Option ℕ) (xs : List ℕ) (after : Option ℕ) → (IsMember xs q → ⊥)
     → AreLinked link_map before xs after → AreLinked (without_link link_map q) before xs after
 AreLinked-vacated link_map q before xs after none stored = AreLinked-frame link_map (without_link link_map q) before xs after (reports_without link_map q xs none) stored
 
--- A chain without q stays a chain once q is free.
 pub IsChain-vacated : (link_map : LinkMap) (q : ℕ) (c : Chain) → (IsMember (items c) q → ⊥) → IsChain link_map c → IsChain (without_link link_map q) c
 IsChain-vacated link_map q c none = IsChain-frame link_map (without_link link_map q) c (reports_without link_map q (items c) none)
 
--- The parts of a distinct list around i are disjoint.
 parts_apart : (x y : List ℕ) (i : ℕ) → AreDistinct (x ++ i ∷ y) → (k : ℕ) → IsMember x k → IsMember y k → ⊥
 parts_apart x y i once k h g = AreDistinct-apart x (i ∷ y) k once h (inr g)
 
--- An index leaves a linear chain.
 pub removed_from_linear : (link_map : LinkMap) (i : ℕ) (x y : List ℕ) → IsChain link_map (linear (x ++ i ∷ y)) → x ++ y ≢ [] → IsChain (with_removal link_map i) (linear (x ++ y))
 removed_from_linear link_map i x y chain filled =
     let x_once : AreDistinct x = AreDistinct-left x (i ∷ y) chain.1 in
@@ -49,7 +44,6 @@ removed_from_linear link_map i x y chain filled =
     first_apart : IsOutside (first_or y None) x
     first_apart k named h = ⊎_elim (λ g. parts_apart x y i chain.1 k h g) (λ e. absurd (cc)) (first_or-IsMember y None k named)
 
--- The first index leaves a cyclic chain.
 pub removed_first_of_cyclic : (link_map : LinkMap) (i : ℕ) (y : List ℕ) → IsChain link_map (cyclic (i ∷ y)) → y ≢ [] → IsChain (with_removal link_map i) (cyclic y)
 removed_first_of_cyclic link_map i [] chain filled = absurd (filled refl)
 removed_first_of_cyclic link_map i (k ∷ y) chain filled =
@@ -60,18 +54,15 @@ removed_first_of_cyclic link_map i (k ∷ y) chain filled =
       subst₂ (λ u v. AreLinked (with_neighbors (without_link link_map i) u v) (last_or y (Some k)) (k ∷ y) (Some k)) (sym (ap prev_in chain.2.0)) (sym (ap next_in chain.2.0)) ringed,
     )
 
--- The parts in the other order are not empty either.
 filled_rotated : (x y : List ℕ) → x ++ y ≢ [] → y ++ x ≢ []
 filled_rotated x y filled =
     let some = filled-IsMember (x ++ y) filled in
     IsMember-filled (y ++ x) some.0 (IsMember-rotated x y some.0 some.1)
 
--- An index leaves a cyclic chain, written from any link.
 pub removed_from_cyclic : (link_map : LinkMap) (i : ℕ) (x y : List ℕ) → IsChain link_map (cyclic (x ++ i ∷ y)) → x ++ y ≢ [] → IsChain (with_removal link_map i) (cyclic (x ++ y))
 removed_from_cyclic link_map i x y chain filled =
     rotated (with_removal link_map i) y x (removed_first_of_cyclic link_map i (y ++ x) (rotated link_map x (i ∷ y) chain) (filled_rotated x y filled))
 
--- A chain without i is unchanged.
 pub removed_rest : (link_map : LinkMap) (i : ℕ) → IsWellLinked link_map → (c : Chain) → (IsMember (items c) i → ⊥) → IsChain link_map c → IsChain (with_removal link_map i) c
 removed_rest link_map i agrees c none chain =
     let closed = chain_closed link_map c chain in
@@ -79,7 +70,6 @@ removed_rest link_map i agrees c none chain =
     let after_apart : IsOutside (next_of link_map i) (items c) = λ k named h. none (closed.back k i h ((agrees.both i k).0 named)) in
     (IsChain-linked (without_link link_map i) (prev_of link_map i) (next_of link_map i) c before_apart after_apart).0 (IsChain-vacated link_map i c none chain)
 
--- A removal removes the index from its chain.
 pub removed_removes : (link_map : LinkMap) (i : ℕ) → IsWellLinked link_map → Removes link_map (with_removal link_map i) i
 removed_removes link_map i agrees =
     record {

@@ -14,28 +14,23 @@ use Rattle.chain_laws.proofs.ChainLemmas.Determinacy.{chain_elsewhere, pairs_dec
 use Rattle.chain_laws.proofs.RemovalLemmas.Pairs.{removed_agrees, removed_in_pairs}
 use Rattle.chain_laws.proofs.RemovalLemmas.Chains.{removed_removes}
 
--- The index is left out.
 pub list_without-same : (x : ℕ) (xs : List ℕ) (i : ℕ) → x ≡ i → list_without (x ∷ xs) i ≡ list_without xs i
 list_without-same x xs i e = if_same x i (list_without xs i) (x ∷ list_without xs i) e
 
--- Any other index is kept.
 pub list_without-other : (x : ℕ) (xs : List ℕ) (i : ℕ) → x ≢ i → list_without (x ∷ xs) i ≡ x ∷ list_without xs i
 list_without-other x xs i ne = if_other x i (list_without xs i) (x ∷ list_without xs i) ne
 
--- A list that does not have the index is unchanged.
 pub list_without-none : (xs : List ℕ) (i : ℕ) → (IsMember xs i → ⊥) → list_without xs i ≡ xs
 list_without-none [] i none = refl
 list_without-none (x ∷ xs) i none =
     list_without-other x xs i (λ e. none (inl e)) ∙ ap (λ (zs : List ℕ). x ∷ zs) (list_without-none xs i (λ h. none (inr h)))
 
--- A distinct list without the index at its one place.
 pub list_without-middle : (x y : List ℕ) (i : ℕ) → AreDistinct (x ++ i ∷ y) → list_without (x ++ i ∷ y) i ≡ x ++ y
 list_without-middle [] y i once = list_without-same i y i refl ∙ list_without-none y i once.0
 list_without-middle (a ∷ x) y i once =
     list_without-other a (x ++ i ∷ y) i (λ e. once.0 (subst (IsMember (x ++ i ∷ y)) (sym e) (IsMember-middle x y i)))
     ∙ ap (λ (zs : List ℕ). a ∷ zs) (list_without-middle x y i once.1)
 
--- The items other than the index stay.
 pub list_without-IsMember : (xs : List ℕ) (i j : ℕ) → j ≢ i → IsMember xs j → IsMember (list_without xs i) j
 list_without-IsMember [] i j ne h = h
 list_without-IsMember (x ∷ xs) i j ne h = by (cases_eq x i) h (list_without-IsMember xs i j ne)
@@ -46,17 +41,14 @@ list_without-IsMember (x ∷ xs) i j ne h = by (cases_eq x i) h (list_without-Is
     by (inr d) (inl s) rest = subst (λ (zs : List ℕ). IsMember zs j) (sym (list_without-other x xs i d)) (inl s)
     by (inr d) (inr k) rest = subst (λ (zs : List ℕ). IsMember zs j) (sym (list_without-other x xs i d)) (inr (rest k))
 
--- The items of a chain other than the index stay.
 pub chain_without-IsMember : (c : Chain) (i j : ℕ) → j ≢ i → IsMember (items c) j → IsMember (items (chain_without c i)) j
 chain_without-IsMember (linear xs) i j ne h = list_without-IsMember xs i j ne h
 chain_without-IsMember (cyclic xs) i j ne h = list_without-IsMember xs i j ne h
 
--- A chain that does not have the index is unchanged.
 pub chain_without-none : (c : Chain) (i : ℕ) → (IsMember (items c) i → ⊥) → chain_without c i ≡ c
 chain_without-none (linear xs) i none = ap (λ (zs : List ℕ). linear zs) (list_without-none xs i none)
 chain_without-none (cyclic xs) i none = ap (λ (zs : List ℕ). cyclic zs) (list_without-none xs i none)
 
--- Each old chain without i, unless empty, is a new one.
 pub removes_shortens : (old new : LinkMap) (i : ℕ) → Removes old new i → (c : Chain) → IsChain old c → items (chain_without c i) ≢ [] → IsChain new (chain_without c i)
 removes_shortens old new i removes (linear xs) chain filled = by (IsMember-or_not xs i)
   where
@@ -81,7 +73,6 @@ removes_shortens old new i removes (cyclic xs) chain filled = by (IsMember-or_no
     by (inl h) = let w = IsMember-written xs i h in around w.0 w.1 w.2
     by (inr none) = subst (λ (zs : List ℕ). IsChain new (cyclic zs)) (sym (list_without-none xs i none)) (removes.rest (cyclic xs) none chain)
 
--- Two removals of i give the same chains.
 removed_alike : (old left right : LinkMap) (slots i : ℕ) → IsWellLinked old → HasLinksWithin old slots → Removes old left i → Removes old right i → (c : Chain) → IsChain left c → IsChain right c
 removed_alike old left right slots i agrees within l r c chain =
     let some = filled-IsMember (items c) (chain_filled left c chain) in
@@ -94,13 +85,11 @@ removed_alike old left right slots i agrees within l r c chain =
         let filled = IsMember-filled (items (chain_without d i)) j has_j in
         chain_elsewhere left right c (chain_without d i) j chain (removes_shortens old left i l d old_chain filled) (removes_shortens old right i r d old_chain filled) h has_j
 
--- A removal of an index has the chains of `removed`.
 pub removal_is_determined : RemovalIsDetermined
 removal_is_determined old new slots i agrees within removes c =
     let removal = removed_removes old i agrees in
     (removed_alike old new (with_removal old i) slots i agrees within removes removal c, removed_alike old (with_removal old i) new slots i agrees within removal removes c)
 
--- A rotation of a cyclic chain without i is that chain, rotated, without i.
 rotated_without : (old : LinkMap) (i : ℕ) (xs ys : List ℕ) → IsChain old (cyclic xs) → IsMember xs i
     → ((rest : List ℕ) → IsChain old (cyclic (i ∷ rest)) → IsRotation (cyclic rest) (cyclic ys))
     → (zs : List ℕ) × IsChain old (cyclic zs) × (ys ≡ list_without zs i)
@@ -111,7 +100,6 @@ rotated_without old i xs ys chain h rotations =
     let longer : IsChain old (cyclic (parts.1 ++ i ∷ parts.0)) = rotated old (i ∷ parts.0) parts.1 start in
     (parts.1 ++ i ∷ parts.0, longer, parts.3 ∙ sym (list_without-middle parts.1 parts.0 i longer.1))
 
--- The new chain of j is the old one without i.
 longer_of : (old new : LinkMap) (i j : ℕ) → Removes old new i → j ≢ i → (d c : Chain) → IsChain old d → IsChain new c → IsMember (items d) j → IsMember (items c) j → IsMember (items d) i
     → (e : Chain) × IsChain old e × (c ≡ chain_without e i)
 longer_of old new i j removes ne (linear xs) c old_chain chain has h has_i =
@@ -138,7 +126,6 @@ longer_of old new i j removes ne (cyclic xs) c old_chain chain has h has_i = by 
         let t = rotated_without old i xs ys old_chain has_i (λ rest ring. rotations rest ring (cyclic ys) k m) in
         (cyclic t.0, t.1, ap (λ (zs : List ℕ). cyclic zs) t.2)
 
--- Each new chain is an old one without the index.
 longer_chain : (old new : LinkMap) (slots i : ℕ) → IsWellLinked old → HasLinksWithin old slots → Removes old new i → (c : Chain) → IsChain new c
     → (e : Chain) × IsChain old e × (c ≡ chain_without e i)
 longer_chain old new slots i agrees within removes c chain =
@@ -156,7 +143,6 @@ longer_chain old new slots i agrees within removes c chain =
         by_i (inl has_i) = longer_of old new i j removes ne d c old_chain chain has h has_i
         by_i (inr none) = (c, chain_elsewhere new old c d j chain (removes.rest d none old_chain) old_chain h has, sym (chain_without-none c i not_i))
 
--- The new chains are the old ones without the index.
 pub removal_leaves_each_without : RemovalLeavesEachWithout
 removal_leaves_each_without old new slots i agrees within removes c =
     (λ chain. let e = longer_chain old new slots i agrees within removes c chain in (e.0, e.1, e.2, chain_filled new c chain), back)
@@ -164,7 +150,6 @@ removal_leaves_each_without old new slots i agrees within removes c =
     back : (d : Chain) × IsChain old d × (c ≡ chain_without d i) × (items c ≢ []) → IsChain new c
     back p = subst (IsChain new) (sym p.2) (removes_shortens old new i removes p.0 p.1 (λ e. p.3 (ap items p.2 ∙ e)))
 
--- A removal whose interlinks agree is determined by its pairs.
 pub removal_is_determined_by_pairs : RemovalIsDeterminedByPairs
 removal_is_determined_by_pairs old new i agrees agrees_new removes =
     let removal = removed_in_pairs old i agrees in

@@ -13,15 +13,12 @@ use Rattle.chain_laws.proofs.InterlinkLemmas.Linked.{IsElsewhere, IsValidAt-Some
 use Rattle.chain_laws.proofs.JoinLemmas.LoneLinks.{with_lone-at, with_lone-elsewhere}
 use Rattle.chain_laws.proofs.InterlinkLemmas.Skips.{Skips, skips_pairs, skips_undo}
 
--- The vacated index has no link.
 pub vacated-at : (link_map : LinkMap) (q j : ℕ) → j ≡ q → without_link link_map q j ≡ None
 vacated-at link_map q j e = if_same j q None (link_map j) e
 
--- Another index is unchanged.
 pub vacated-elsewhere : (link_map : LinkMap) (q j : ℕ) → j ≢ q → without_link link_map q j ≡ link_map j
 vacated-elsewhere link_map q j ne = if_other j q None (link_map j) ne
 
--- A write of `next` makes no link.
 pub with_next_at-none : (link_map : LinkMap) (u v : Option ℕ) (j : ℕ) → link_map j ≡ None → with_next_at link_map u v j ≡ None
 with_next_at-none link_map None v j e = e
 with_next_at-none link_map (Some i) v j e = ⊎_elim
@@ -29,7 +26,6 @@ with_next_at-none link_map (Some i) v j e = ⊎_elim
     (λ ne. if_other j i _ _ ne ∙ e)
     (cases_eq j i)
 
--- A write of `prev` makes no link.
 pub with_prev_at-none : (link_map : LinkMap) (u v : Option ℕ) (j : ℕ) → link_map j ≡ None → with_prev_at link_map u v j ≡ None
 with_prev_at-none link_map None v j e = e
 with_prev_at-none link_map (Some i) v j e = ⊎_elim
@@ -37,14 +33,12 @@ with_prev_at-none link_map (Some i) v j e = ⊎_elim
     (λ ne. if_other j i _ _ ne ∙ e)
     (cases_eq j i)
 
--- A removed index has no link.
 pub removed-at : (link_map : LinkMap) (q : ℕ) → with_removal link_map q q ≡ None
 removed-at link_map q =
     let u = prev_of link_map q in
     let v = next_of link_map q in
     with_prev_at-none (with_next_at (without_link link_map q) u v) v u q (with_next_at-none (without_link link_map q) u v q (vacated-at link_map q q refl))
 
--- The valid indexes are the old ones without q.
 pub HasLink-vacated : (link_map : LinkMap) (q j : ℕ) → HasLink (without_link link_map q) j ↔ (HasLink link_map j × (j ≢ q))
 HasLink-vacated link_map q j = (λ v. by v (cases_eq j q), λ p. (HasLink-same (without_link link_map q) link_map j (vacated-elsewhere link_map q j p.1)).1 p.0)
   where
@@ -52,14 +46,12 @@ HasLink-vacated link_map q j = (λ v. by v (cases_eq j q), λ p. (HasLink-same (
     by v (inl e) = let none = sym (vacated-at link_map q j e) ∙ v.links in absurd (cc)
     by v (inr ne) = ((HasLink-same (without_link link_map q) link_map j (vacated-elsewhere link_map q j ne)).0 v, ne)
 
--- The valid indexes once the neighbors of q are linked.
 pub HasLink-removed : (link_map : LinkMap) (q j : ℕ) → HasLink (with_removal link_map q) j ↔ (HasLink link_map j × (j ≢ q))
 HasLink-removed link_map q j =
     let linking = HasLink-linked (without_link link_map q) (prev_of link_map q) (next_of link_map q) j in
     let rest = HasLink-vacated link_map q j in
     (λ v. rest.0 (linking.0 v), λ p. linking.1 (rest.1 p))
 
--- `next` after the removal skips q.
 pub next_skips : (link_map : LinkMap) (q : ℕ) → IsWellLinked link_map → Skips (next_of link_map) (next_of (with_removal link_map q)) q
 next_skips link_map q agrees = record { gone = ap next_in (removed-at link_map q); past = past; elsewhere = elsewhere }
   where
@@ -83,7 +75,6 @@ next_skips link_map q agrees = record { gone = ap next_in (removed-at link_map q
         ∙ ap next_in (with_next_at-elsewhere (without_link link_map q) u v j unnamed)
         ∙ ap next_in (vacated-elsewhere link_map q j ne)
 
--- `prev` after the removal skips q.
 pub prev_skips : (link_map : LinkMap) (q : ℕ) → IsWellLinked link_map → Skips (prev_of link_map) (prev_of (with_removal link_map q)) q
 prev_skips link_map q agrees = record { gone = ap prev_in (removed-at link_map q); past = past; elsewhere = elsewhere }
   where
@@ -107,7 +98,6 @@ prev_skips link_map q agrees = record { gone = ap prev_in (removed-at link_map q
         ∙ prev_of-with_next_at (without_link link_map q) u v j
         ∙ ap prev_in (vacated-elsewhere link_map q j ne)
 
--- After a removal the interlinks agree.
 pub removed_agrees : (link_map : LinkMap) (q : ℕ) → IsWellLinked link_map → IsWellLinked (with_removal link_map q)
 removed_agrees link_map q agrees =
     record {
@@ -115,7 +105,6 @@ removed_agrees link_map q agrees =
           agrees.both (next_skips link_map q agrees) (prev_skips link_map q agrees);
     }
 
--- The pairs and links after a removal.
 pub removed_in_pairs : (link_map : LinkMap) (q : ℕ) → IsWellLinked link_map → RemovesPairs link_map (with_removal link_map q) q
 removed_in_pairs link_map q agrees =
     record {
@@ -123,18 +112,15 @@ removed_in_pairs link_map q agrees =
       links = HasLink-removed link_map q;
     }
 
--- No link names a removed index.
 pub removed_unnamed : (link_map : LinkMap) (q : ℕ) → IsWellLinked link_map → (j : ℕ) → (next_of (with_removal link_map q) j ≢ Some q) × (prev_of (with_removal link_map q) j ≢ Some q)
 removed_unnamed link_map q agrees j =
     let valid_q : HasLink (with_removal link_map q) q → ⊥ = λ v. ((HasLink-removed link_map q q).0 v).1 refl in
     let both = (removed_agrees link_map q agrees).both in
     (λ e. valid_q (prev_valid (with_removal link_map q) q j ((both j q).0 e)), λ e. valid_q (next_valid (with_removal link_map q) q j ((both q j).1 e)))
 
--- The removal of a link without neighbors links nothing.
 pub removed_lone : (link_map : LinkMap) (q : ℕ) → prev_of link_map q ≡ None → next_of link_map q ≡ None → with_removal link_map q ≡ without_link link_map q
 removed_lone link_map q start end = ap₂ (with_neighbors (without_link link_map q)) start end
 
--- The removal of a new lone link.
 pub removed_of_lone : (link_map : LinkMap) (q : ℕ) → link_map q ≡ None → with_removal (with_lone link_map q) q ≡ link_map
 removed_of_lone link_map q free =
     removed_lone (with_lone link_map q) q (ap prev_in (with_lone-at link_map q q refl)) (ap next_in (with_lone-at link_map q q refl)) ∙ fun_ext (λ j. by j (cases_eq j q))

@@ -12,23 +12,18 @@ use Rattle.chain_laws.proofs.ChainLemmas.ChainLists.{chain_at, all_items_valid}
 use Rattle.chain_laws.proofs.RenamingLemmas.Images.{previous_key, images-first, images-last, images-filled, images-once, images-items, has_image, image_has, image_of, chain_image, image_of_chain}
 
 module _ (to : ℕ → Option ℕ) (old new : LinkMap) (renaming : IsRenaming to old new) where
-  -- The interlinks of a link at its new index.
   pub reports_renamed : (i k : ℕ) → HasLink old i → to i ≡ Some k → new k ≡ Some (link (option_and_then to (prev_of old i)) (option_and_then to (next_of old i)))
   reports_renamed i k valid e = renaming.carries i k (prev_of old i) (next_of old i) (reports_both old i (prev_of old i) (next_of old i) valid refl refl) e
 
-  -- There is a link at the new index.
   pub valid_renamed : (i k : ℕ) → HasLink old i → to i ≡ Some k → HasLink new k
   valid_renamed i k valid e = reports_valid new k _ (reports_renamed i k valid e)
 
-  -- Each `next` at the new index.
   next_renamed : (i k : ℕ) → HasLink old i → to i ≡ Some k → next_of new k ≡ option_and_then to (next_of old i)
   next_renamed i k valid e = ap next_in (reports_renamed i k valid e)
 
-  -- Each `prev` at the new index.
   prev_renamed : (i k : ℕ) → HasLink old i → to i ≡ Some k → prev_of new k ≡ option_and_then to (prev_of old i)
   prev_renamed i k valid e = ap prev_in (reports_renamed i k valid e)
 
-  -- Indexes are neighbors exactly if their new indexes are.
   pairs_renamed : (i j k m : ℕ) → HasLink old i → to i ≡ Some k → to j ≡ Some m → AreNeighbors old i j ↔ AreNeighbors new k m
   pairs_renamed i j k m valid e f = (there, back)
     where
@@ -40,7 +35,6 @@ module _ (to : ℕ → Option ℕ) (old new : LinkMap) (renaming : IsRenaming to
           let w = previous_key to (next_of old i) m (sym (next_renamed i k valid e) ∙ n) in
           w.1 ∙ ap (λ (x : ℕ). Some x) (renaming.apart w.0 j m w.2 f)
 
-  -- The link after an index names it in turn.
   next_then_prev : IsWellLinked old → (k m : ℕ) → next_of new k ≡ Some m → prev_of new m ≡ Some k
   next_then_prev agrees k m n =
       let i = renaming.onto k (next_valid new k m n) in
@@ -48,7 +42,6 @@ module _ (to : ℕ → Option ℕ) (old new : LinkMap) (renaming : IsRenaming to
       let p : prev_of old j.0 ≡ Some i.0 = (agrees.both i.0 j.0).0 j.1 in
       prev_renamed j.0 m (prev_valid old j.0 i.0 p) j.2 ∙ (ap (option_and_then to) p ∙ i.2)
 
-  -- The link before an index names it in turn.
   prev_then_next : IsWellLinked old → (k m : ℕ) → prev_of new m ≡ Some k → next_of new k ≡ Some m
   prev_then_next agrees k m p =
       let j = renaming.onto m (prev_valid new m k p) in
@@ -56,7 +49,6 @@ module _ (to : ℕ → Option ℕ) (old new : LinkMap) (renaming : IsRenaming to
       let n : next_of old i.0 ≡ Some j.0 = (agrees.both i.0 j.0).1 i.1 in
       next_renamed i.0 k (next_valid old i.0 j.0 n) i.2 ∙ (ap (option_and_then to) n ∙ j.2)
 
-  -- A linked list is linked at its new indexes.
   stored_renamed : (before : Option ℕ) (xs ys : List ℕ) (after : Option ℕ) → AreImages to xs ys → AreLinked old before xs after
       → AreLinked new (option_and_then to before) ys (option_and_then to after)
   stored_renamed before xs [] after images s = tt
@@ -66,7 +58,6 @@ module _ (to : ℕ → Option ℕ) (old new : LinkMap) (renaming : IsRenaming to
     subst (λ (o : Option ℕ). AreLinked new o ys (option_and_then to after)) images.0 (stored_renamed (Some x) xs ys after images.1 s.1),
   )
 
-  -- A chain is a chain at its new indexes.
   chain_renamed : (c d : Chain) → IsChain old c → IsImage to c d → IsChain new d
   chain_renamed (linear xs) (linear ys) h image =
       (images-filled to xs ys image h.0, images-once to xs ys renaming.apart image h.1, stored_renamed None xs ys None image h.2)
@@ -80,19 +71,15 @@ module _ (to : ℕ → Option ℕ) (old new : LinkMap) (renaming : IsRenaming to
   chain_renamed (linear xs) (cyclic ys) h image = absurd image
   chain_renamed (cyclic xs) (linear ys) h image = absurd image
 
--- After a renaming the interlinks agree.
 pub renaming_agrees : RenamingAgrees
 renaming_agrees to old new renaming agrees = record { both = λ k m. (next_then_prev to old new renaming agrees k m, prev_then_next to old new renaming agrees k m) }
 
--- Neighbor pairs are preserved.
 pub renaming_carries_pairs : RenamingCarriesPairs
 renaming_carries_pairs to old new i j k m renaming valid e f = pairs_renamed to old new renaming i j k m valid e f
 
--- Each chain is preserved.
 pub renaming_carries_chains : RenamingCarriesChains
 renaming_carries_chains to old new c d renaming h image = chain_renamed to old new renaming c d h image
 
--- The set of chains is preserved.
 pub renaming_carries_all : RenamingCarriesAll
 renaming_carries_all to old new chains others renaming are images = record {
   each = λ d m. let c = image_of_chain to chains others d images m in chain_renamed to old new renaming c.0 d (are.each c.0 c.1) c.2;
@@ -100,7 +87,6 @@ renaming_carries_all to old new chains others renaming are images = record {
   all = λ k v. let i = renaming.onto k v in image_has to (all_items chains) (all_items others) i.0 k (images-items to chains others images) (are.all i.0 i.1) i.2;
 }
 
--- Two arenas are equal if equal where either has a link.
 pub same_reported : (left right : LinkMap) → ((k : ℕ) → HasLink left k → left k ≡ right k) → ((k : ℕ) → HasLink right k → left k ≡ right k) → left ≡ right
 same_reported left right in_left in_right = fun_ext (λ k. by k (left k) refl (right k) refl)
   where
@@ -109,18 +95,15 @@ same_reported left right in_left in_right = fun_ext (λ k. by k (left k) refl (r
     by k None e None f = e ∙ sym f
     by k None e (Some l) f = in_right k (reports_valid right k l f)
 
--- A renaming by a function with equal values.
 pub renaming-same : (to by : ℕ → Option ℕ) (old new : LinkMap) → ((i : ℕ) → to i ≡ by i) → IsRenaming to old new → IsRenaming by old new
 renaming-same to by old new same renaming = subst (λ (f : ℕ → Option ℕ). IsRenaming f old new) (fun_ext same) renaming
 
--- The new indexes determine the renaming.
 pub renaming_is_determined : RenamingIsDetermined
 renaming_is_determined to old new other one also = same_reported new other (λ k valid. reported_by k (one.onto k valid)) (λ k valid. reported_by k (also.onto k valid))
   where
     reported_by : (k : ℕ) → (i : ℕ) × HasLink old i × (to i ≡ Some k) → new k ≡ other k
     reported_by k i = reports_renamed to old new one i.0 k i.1 i.2 ∙ sym (reports_renamed to old other also i.0 k i.1 i.2)
 
--- Two renamings one after another are a renaming.
 pub renamings_compose : RenamingsCompose
 renamings_compose first second old between new one next = record {
   apart = λ i j k e f.
@@ -145,10 +128,7 @@ renamings_compose first second old between new one next = record {
     through_both None = refl
     through_both (Some i) = refl
 
--- ---- by the chains
-
 module _ (to : ℕ → Option ℕ) (old new : LinkMap) where
-  -- A list linked in both arenas gives the interlinks at its new indexes.
   stored_states : (before : Option ℕ) (xs ys : List ℕ) (after : Option ℕ) (i k : ℕ) (u v : Option ℕ) → AreImages to xs ys
       → AreLinked old before xs after → AreLinked new (option_and_then to before) ys (option_and_then to after)
       → IsMember xs i → old i ≡ Some (link u v) → to i ≡ Some k → new k ≡ Some (link (option_and_then to u) (option_and_then to v))
@@ -169,7 +149,6 @@ module _ (to : ℕ → Option ℕ) (old new : LinkMap) where
   stored_states before (x ∷ xs) (y ∷ ys) after i k u v images s t (inr h) links e =
       stored_states (Some x) xs ys after i k u v images.1 s.1 (subst (λ (o : Option ℕ). AreLinked new o ys (option_and_then to after)) (sym images.0) t.1) h links e
 
-  -- A chain and its image give the interlinks at the new indexes.
   chain_states : (c d : Chain) (i k : ℕ) (u v : Option ℕ) → IsImage to c d → IsChain old c → IsChain new d
       → IsMember (items c) i → old i ≡ Some (link u v) → to i ≡ Some k → new k ≡ Some (link (option_and_then to u) (option_and_then to v))
   chain_states (linear xs) (linear ys) i k u v image h n m links e = stored_states None xs ys None i k u v image h.2 n.2 m links e
@@ -181,7 +160,6 @@ module _ (to : ℕ → Option ℕ) (old new : LinkMap) where
   chain_states (linear xs) (cyclic ys) i k u v image h n m links e = absurd image
   chain_states (cyclic xs) (linear ys) i k u v image h n m links e = absurd image
 
-  -- An arena with the images of all chains is their renaming.
   pub renames_by_chains : (chains others : List Chain) → ((i j k : ℕ) → to i ≡ Some k → to j ≡ Some k → i ≡ j) → AreChains old chains → AreImagesOf to chains others
       → AreChains new others → IsRenaming to old new
   renames_by_chains chains others apart are images also = record {

@@ -16,24 +16,19 @@ use Rattle.chain_laws.proofs.RenamingLemmas.Chains.{valid_renamed, renaming-same
 use Rattle.chain_laws.proofs.RenamingLemmas.Positions.{place-within, place-has, has-place, place-none, place-last, place-before_last}
 use Rattle.chain_laws.proofs.RenamingLemmas.Moves.{moved_index-same, moved_index-other, sent-valid, sent-from, next_named, prev_named, move_renames}
 
--- An index up to k has its place in the list.
 pub gathered_place-low : (link_map : LinkMap) (done : List ℕ) (k i : ℕ) → i ≤ k → gathered_place link_map done k i ≡ place_in done i
 gathered_place-low link_map done k i low = ap (λ t. if t then place_in done i else option_map (λ _. i) (link_map i)) (le-leb i k low)
 
--- A link above k is at its old index.
 pub gathered_place-high : (link_map : LinkMap) (done : List ℕ) (k i : ℕ) → k < i → gathered_place link_map done k i ≡ option_map (λ _. i) (link_map i)
 gathered_place-high link_map done k i high = ap (λ t. if t then place_in done i else option_map (λ _. i) (link_map i)) (lt-leb i k high)
 
--- The index of each link after the next move.
 abbrev gathered_on : LinkMap → LinkMap → List ℕ → ℕ → ℕ → Option ℕ
 gathered_on old now done k i = option_and_then (index_after_move now (k + 1) (length done + 1)) (gathered_place old done k i)
 
 module _ (old now : LinkMap) (done : List ℕ) (k : ℕ) (gathering : IsGathering old now done k) where
-  -- The list has only indexes up to k.
   holds_low : (i : ℕ) → IsMember done i → i ≤ k
   holds_low i h = ((gathering.holds i).0 h).1
 
-  -- An index with a place is a link.
   gathered_from : (i m : ℕ) → gathered_place old done k i ≡ Some m → HasLink old i
   gathered_from i m e = by (cases_lt k i)
     where
@@ -41,9 +36,6 @@ module _ (old now : LinkMap) (done : List ℕ) (k : ℕ) (gathering : IsGatherin
       by (inl high) = (sent-from old i i m (sym (gathered_place-high old done k i high) ∙ e)).0
       by (inr low) = ((gathering.holds i).0 (place-has 1 done i m (sym (gathered_place-low old done k i low) ∙ e))).0
 
-  -- ---- a free slot is skipped
-
-  -- Each link is at the same index.
   skipped_same : old (k + 1) ≡ None → (i : ℕ) → gathered_place old done k i ≡ gathered_place old done (k + 1) i
   skipped_same free i = by (cases_lt k i) (ℕ_discrete i (k + 1))
     where
@@ -58,7 +50,6 @@ module _ (old now : LinkMap) (done : List ℕ) (k : ℕ) (gathering : IsGatherin
       by (inl high) (no differs) = gathered_place-high old done k i high ∙ sym (gathered_place-high old done (k + 1) i (omega arith))
       by (inr low) at = gathered_place-low old done k i low ∙ sym (gathered_place-low old done (k + 1) i (omega arith))
 
-  -- The links up to the free slot have been moved.
   skipped : old (k + 1) ≡ None → IsGathering old now done (k + 1)
   skipped free = record {
     renamed = renaming-same (gathered_place old done k) (gathered_place old done (k + 1)) old now (skipped_same free) gathering.renamed;
@@ -77,9 +68,6 @@ module _ (old now : LinkMap) (done : List ℕ) (k : ℕ) (gathering : IsGatherin
           by (yes e) = absurd (not_both_ways (old i) w.0.link (ap old e ∙ free) w.0.links)
           by (no differs) = let low : i ≤ k + 1 = w.1 in (gathering.holds i).1 (w.0, omega arith)
 
-  -- ---- at the end
-
-  -- There is no link above the last slot.
   ended : HasLinksWithin old k → IsRenaming (place_in done) old now
   ended within = renaming-same (gathered_place old done k) (place_in done) old now same gathering.renamed
     where
@@ -94,14 +82,10 @@ module _ (old now : LinkMap) (done : List ℕ) (k : ℕ) (gathering : IsGatherin
           by (inl high) = gathered_place-high old done k i high ∙ none i (old i) refl high
           by (inr low) = gathered_place-low old done k i low
 
-  -- ---- the next link is moved
-
   module _ (agrees : IsWellLinked old) (valid : HasLink old (k + 1)) where
-    -- The next link has not been moved yet.
     here : gathered_place old done k (k + 1) ≡ Some (k + 1)
     here = gathered_place-high old done k (k + 1) (omega arith) ∙ ap (option_map (λ _. k + 1)) valid.links
 
-    -- No other link is at the destination.
     free : (length done + 1 ≡ k + 1) ⊎ (now (length done + 1) ≡ None)
     free = by (ℕ_discrete (length done + 1) (k + 1)) (now (length done + 1)) refl
       where
@@ -127,33 +111,26 @@ module _ (old now : LinkMap) (done : List ℕ) (k : ℕ) (gathering : IsGatherin
             let i = gathering.renamed.onto (length done + 1) (reports_valid now (length done + 1) l is) in
             absurd (none i.0 i.2 differs)
 
-    -- The next link may be moved.
     can_move : CanMove now (k + 1) (length done + 1)
     can_move = record { valid = valid_renamed (gathered_place old done k) old now gathering.renamed (k + 1) (k + 1) valid here; free = free }
 
-    -- The interlinks agree.
     agrees_now : IsWellLinked now
     agrees_now = renaming_agrees (gathered_place old done k) old now gathering.renamed agrees
 
-    -- The new index of a link that was at m.
     moved_on : (i m : ℕ) → gathered_place old done k i ≡ Some m → gathered_on old now done k i ≡ Some (moved_index (k + 1) (length done + 1) m)
     moved_on i m e =
         ap (option_and_then (index_after_move now (k + 1) (length done + 1))) e
         ∙ sent-valid now m (moved_index (k + 1) (length done + 1) m) (valid_renamed (gathered_place old done k) old now gathering.renamed i m (gathered_from i m e) e)
 
-    -- Any other link keeps its index.
     moved_past : (i m : ℕ) → gathered_place old done k i ≡ Some m → m ≢ k + 1 → gathered_on old now done k i ≡ Some m
     moved_past i m e differs = moved_on i m e ∙ ap Some (moved_index-other (k + 1) (length done + 1) m differs)
 
-    -- An index without a place still has none.
     moved_nowhere : (i : ℕ) → gathered_place old done k i ≡ None → gathered_on old now done k i ≡ None
     moved_nowhere i e = ap (option_and_then (index_after_move now (k + 1) (length done + 1))) e
 
-    -- The link to be moved is not in the list.
     not_held : IsMember done (k + 1) → ⊥
     not_held h = let low : k + 1 ≤ k = holds_low (k + 1) h in omega arith
 
-    -- Each link is where the longer list puts it.
     moved_same : (i : ℕ) → gathered_on old now done k i ≡ gathered_place old (done ++ (k + 1) ∷ []) (k + 1) i
     moved_same i = by (cases_lt k i) (ℕ_discrete i (k + 1))
       where
@@ -183,7 +160,6 @@ module _ (old now : LinkMap) (done : List ℕ) (k : ℕ) (gathering : IsGatherin
             low_held low (IsMember-or_not done i)
             ∙ (sym (place-before_last done (k + 1) i (λ e. omega arith)) ∙ sym (gathered_place-low old (done ++ (k + 1) ∷ []) (k + 1) i (omega arith)))
 
-    -- The link has been moved.
     gone : IsGathering old (with_link_moved now (k + 1) (length done + 1)) (done ++ (k + 1) ∷ []) (k + 1)
     gone = record {
       renamed =
@@ -214,7 +190,6 @@ module _ (old now : LinkMap) (done : List ℕ) (k : ℕ) (gathering : IsGatherin
             by (yes e) = subst (IsMember (done ++ (k + 1) ∷ [])) (sym e) (IsMember-middle done [] (k + 1))
             by (no differs) = let low : i ≤ k + 1 = w.1 in IsMember-left done ((k + 1) ∷ []) i ((gathering.holds i).1 (w.0, omega arith))
 
--- If each link keeps its index, the arena is unchanged.
 pub rests : (link_map : LinkMap) → IsWellLinked link_map → IsRenaming (λ i. option_map (λ _. i) (link_map i)) link_map link_map
 rests link_map agrees = record {
   apart = λ i j k e f. (sent-from link_map i i k e).1 ∙ sym (sent-from link_map j j k f).1;
@@ -230,7 +205,6 @@ rests link_map agrees = record {
     stays None valid = refl
     stays (Some q) valid = sym (sent-valid link_map q q (valid q refl))
 
--- No link has been moved yet.
 pub gathering_begins : GatheringBegins
 gathering_begins link_map slots agrees within = record {
   renamed = renaming-same (λ i. option_map (λ _. i) (link_map i)) (gathered_place link_map [] 0) link_map link_map same (rests link_map agrees);
@@ -253,15 +227,12 @@ gathering_begins link_map slots agrees within = record {
         by (inl high) = sym (gathered_place-high link_map [] 0 i high)
         by (inr low) = unsent i (link_map i) refl low ∙ sym (gathered_place-low link_map [] 0 i low)
 
--- A free slot is skipped.
 pub gathering_skips : GatheringSkips
 gathering_skips old now done k gathering free = skipped old now done k gathering free
 
--- The next link may be moved, and is moved.
 pub gathering_continues : GatheringContinues
 gathering_continues old now done k agrees gathering valid =
     (agrees_now old now done k gathering agrees valid, can_move old now done k gathering agrees valid, gone old now done k gathering agrees valid)
 
--- At the end all links are renumbered.
 pub gathering_ends : GatheringEnds
 gathering_ends old now done slots within gathering = ended old now done slots gathering within

@@ -12,20 +12,17 @@ use Rattle.chain_laws.proofs.ChainLemmas.Partitions.{the_chains}
 use Rattle.chain_laws.proofs.RenamingLemmas.Positions.{place-first, place-other}
 use Rattle.chain_laws.proofs.RenamingLemmas.ChainRuns.{arranges_chains_in_runs}
 
--- There is a least-index order.
 pub has_least_index_order : HasLeastIndexOrder
 has_least_index_order link_map slots agrees within =
     let all = the_chains link_map slots agrees within in
     (all_items all.0, record { chains = all.0; are = all.1; items = refl })
 
--- The least-index order is that of the one set of chains.
 pub least_index_order_is_ordered : LeastIndexOrderIsUnique
 least_index_order_is_ordered link_map one indexes = (
   (λ order. order.items ∙ ap all_items (one.only order.chains order.are)),
   (λ e. record { chains = one.chains; are = one.are; items = e }),
 )
 
--- The least-index order is canonical.
 pub least_index_order_is_canonical : LeastIndexOrderIsCanonical
 least_index_order_is_canonical link_map indexes order = record {
   chains = order.chains;
@@ -33,52 +30,42 @@ least_index_order_is_canonical link_map indexes order = record {
   items = order.items;
 }
 
--- ---- ascending lists
-
 -- Each item is below all items after it.
 abbrev pub IsAscending : List ℕ → Type 0
 IsAscending [] = Unit {0}
 IsAscending (x ∷ xs) = ((y : ℕ) → IsMember xs y → x < y) × IsAscending xs
 
--- The left part of an ascending list is ascending.
 ascending-left : (xs ys : List ℕ) → IsAscending (xs ++ ys) → IsAscending xs
 ascending-left [] ys ascending = tt
 ascending-left (x ∷ xs) ys ascending = (λ y h. ascending.0 y (IsMember-left xs ys y h), ascending-left xs ys ascending.1)
 
--- The right part of an ascending list is ascending.
 ascending-right : (xs ys : List ℕ) → IsAscending (xs ++ ys) → IsAscending ys
 ascending-right [] ys ascending = ascending
 ascending-right (x ∷ xs) ys ascending = ascending-right xs ys ascending.1
 
--- An item of a run is at least its first.
 run_low : (k n y : ℕ) → IsMember (range_with_len k n) y → k ≤ y
 run_low k zero y h = absurd h
 run_low k (suc n) y (inl e) = let same : k ≡ y = e in omega arith
 run_low k (suc n) y (inr h) = let low : k + 1 ≤ y = run_low (k + 1) n y h in omega arith
 
--- A run is ascending.
 pub run_ascends : (k n : ℕ) → IsAscending (range_with_len k n)
 run_ascends k zero = tt
 run_ascends k (suc n) = (λ y h. let low : k + 1 ≤ y = run_low (k + 1) n y h in omega arith, run_ascends (k + 1) n)
 
--- Of chains that are ascending one after another, each is ascending.
 ascending_each : (chains : List Chain) (c : Chain) → IsAscending (all_items chains) → HasChain chains c → IsAscending (items c)
 ascending_each [] c ascending m = absurd m
 ascending_each (d ∷ chains) c ascending (inl e) = subst (λ (x : Chain). IsAscending (items x)) e (ascending-left (items d) (all_items chains) ascending)
 ascending_each (d ∷ chains) c ascending (inr m) = ascending_each chains c (ascending-right (items d) (all_items chains) ascending) m
 
--- An ascending chain is written from its least index.
 ascending_written : (c : Chain) → IsAscending (items c) → StartsAtLeast c
 ascending_written (linear xs) ascending = tt
 ascending_written (cyclic []) ascending = tt
 ascending_written (cyclic (x ∷ xs)) ascending = IsMember-at_most x xs (λ y h. let above : x < y = ascending.0 y h in omega arith)
 
--- A non-empty left part of an ascending list has an item below the right part.
 ascending_below : (xs ys : List ℕ) → xs ≢ [] → IsAscending (xs ++ ys) → (m : ℕ) × IsMember xs m × ((y : ℕ) → IsMember ys y → m < y)
 ascending_below [] ys filled ascending = absurd (filled refl)
 ascending_below (x ∷ xs) ys filled ascending = (x, inl refl, λ y h. ascending.0 y (IsMember-right xs ys y h))
 
--- Chains that are ascending one after another are sorted by least index.
 order_ascends : (chains : List Chain) → ((c : Chain) → HasChain chains c → items c ≢ []) → IsAscending (all_items chains) → IsSortedByLeast chains
 order_ascends [] filled ascending = tt
 order_ascends (c ∷ chains) filled ascending = (
@@ -86,11 +73,9 @@ order_ascends (c ∷ chains) filled ascending = (
   order_ascends chains (λ d m. filled d (inr m)) (ascending-right (items c) (all_items chains) ascending),
 )
 
--- Chains that are ascending one after another are in order.
 pub ascending_in_order : (chains : List Chain) → ((c : Chain) → HasChain chains c → items c ≢ []) → IsAscending (all_items chains) → IsInOrder chains
 ascending_in_order chains filled ascending = record { written = λ c m. ascending_written c (ascending_each chains c ascending m); ascends = order_ascends chains filled ascending }
 
--- Links in canonical order are in their least-index order.
 pub least_index_order_rests : LeastIndexOrderRests
 least_index_order_rests link_map n canonical = record {
   chains = canonical.chains;
@@ -102,7 +87,6 @@ least_index_order_rests link_map n canonical = record {
   items = canonical.items;
 }
 
--- Links arranged in least-index order are in canonical order.
 pub layout_is_idempotent : LayoutIsIdempotent
 layout_is_idempotent old new indexes order renaming =
     let runs =
@@ -114,7 +98,6 @@ layout_is_idempotent old new indexes order renaming =
       items = ap (λ (is : List ℕ). range_with_len 1 (length is)) order.items ∙ sym runs.1;
     })
 
--- In a run each item is at its own place.
 run_rests : (k n i : ℕ) → k ≤ i → i < k + n → place_from k (range_with_len k n) i ≡ Some i
 run_rests k zero i low high = absurd (omega (arith, low, high))
 run_rests k (suc n) i low high = by (ℕ_discrete k i) (λ above. run_rests (suc k) n i above (omega (arith, high)))

@@ -11,19 +11,15 @@ use Rattle.chain_laws.proofs.InterlinkLemmas.Inverses.{if_same, if_other, altere
 use Rattle.chain_laws.proofs.InterlinkLemmas.Linked.{IsValidAt, put_at, prev_of-with_next_at, next_of-with_prev_at, next_of-with_next_at, prev_of-with_prev_at, HasLink-with_next_at, HasLink-with_prev_at, HasLink-changed}
 use Rattle.chain_laws.proofs.RenamingLemmas.Chains.{same_reported}
 
--- The moved index.
 pub moved_index-same : (i k j : ℕ) → j ≡ i → moved_index i k j ≡ k
 moved_index-same i k j e = if_same j i k j e
 
--- Any other index.
 pub moved_index-other : (i k j : ℕ) → j ≢ i → moved_index i k j ≡ j
 moved_index-other i k j differs = if_other j i k j differs
 
--- A link sent to n has the destination n.
 pub sent-valid : (link_map : LinkMap) (j n : ℕ) → HasLink link_map j → option_map (λ _. n) (link_map j) ≡ Some n
 sent-valid link_map j n valid = ap (option_map (λ _. n)) valid.links
 
--- Only a link has a destination.
 pub sent-from : (link_map : LinkMap) (j n m : ℕ) → option_map (λ _. n) (link_map j) ≡ Some m → HasLink link_map j × (n ≡ m)
 sent-from link_map j n m e = by (link_map j) refl e
   where
@@ -31,7 +27,6 @@ sent-from link_map j n m e = by (link_map j) refl e
     by None is goes = absurd (cc)
     by (Some l) is goes = (reports_valid link_map j l is, one_some goes)
 
--- Each link after a move was there before it.
 put_from : (link_map : LinkMap) (i k m : ℕ) → HasLink (with_link_placed link_map i k) m → (j : ℕ) × HasLink link_map j × (moved_index i k j ≡ m)
 put_from link_map i k m valid = by (ℕ_discrete m k) (ℕ_discrete m i)
   where
@@ -40,16 +35,13 @@ put_from link_map i k m valid = by (ℕ_discrete m k) (ℕ_discrete m i)
     by (no c) (yes e) = absurd (not_both_ways (with_link_placed link_map i k m) valid.link (if_other m k _ _ c ∙ if_same m i _ _ e) valid.links)
     by (no c) (no d) = (m, reports_valid link_map m valid.link (sym (if_other m k _ _ c ∙ if_other m i _ _ d) ∙ valid.links), moved_index-other i k m d)
 
--- The index after a link is valid.
 pub next_named : (link_map : LinkMap) (j : ℕ) → IsWellLinked link_map → IsValidAt link_map (next_of link_map j)
 next_named link_map j agrees q e = prev_valid link_map q j ((agrees.both j q).0 e)
 
--- The index before a link is valid.
 pub prev_named : (link_map : LinkMap) (j : ℕ) → IsWellLinked link_map → IsValidAt link_map (prev_of link_map j)
 prev_named link_map j agrees q e = next_valid link_map q j ((agrees.both q j).1 e)
 
 module _ (link_map : LinkMap) (i k : ℕ) (agrees : IsWellLinked link_map) (can : CanMove link_map i k) where
-  -- No other link is at the destination.
   differs_elsewhere : (j : ℕ) → HasLink link_map j → j ≢ i → j ≢ k
   differs_elsewhere j valid differs e = by can.free
     where
@@ -57,7 +49,6 @@ module _ (link_map : LinkMap) (i k : ℕ) (agrees : IsWellLinked link_map) (can 
       by (inl same) = differs (e ∙ same)
       by (inr none) = not_both_ways (link_map j) valid.link (ap link_map e ∙ none) valid.links
 
-  -- No two links are moved to one index.
   index_apart : (a b : ℕ) → HasLink link_map a → HasLink link_map b → moved_index i k a ≡ moved_index i k b → a ≡ b
   index_apart a b valid also e = by (ℕ_discrete a i) (ℕ_discrete b i)
     where
@@ -67,7 +58,6 @@ module _ (link_map : LinkMap) (i k : ℕ) (agrees : IsWellLinked link_map) (can 
       by (no c) (yes t) = absurd (differs_elsewhere a valid c (sym (moved_index-other i k a c) ∙ (e ∙ moved_index-same i k b t)))
       by (no c) (no d) = sym (moved_index-other i k a c) ∙ (e ∙ moved_index-other i k b d)
 
-  -- What was at the index of a link is at its new index.
   put_to : (other : LinkMap) (j : ℕ) → HasLink link_map j → with_link_placed other i k (moved_index i k j) ≡ other j
   put_to other j valid = by (ℕ_discrete j i)
     where
@@ -76,26 +66,20 @@ module _ (link_map : LinkMap) (i k : ℕ) (agrees : IsWellLinked link_map) (can 
       by (no d) =
           ap (with_link_placed other i k) (moved_index-other i k j d) ∙ (if_other j k _ _ (differs_elsewhere j valid d) ∙ if_other j i _ _ d)
 
-  -- ---- a renaming
-
-  -- The new index of a neighbor, if there is one.
   maps_to : (o : Option ℕ) → IsValidAt link_map o → option_map (moved_index i k) o ≡ option_and_then (index_after_move link_map i k) o
   maps_to None valid = refl
   maps_to (Some q) valid = sym (sent-valid link_map q (moved_index i k q) (valid q refl))
 
-  -- After the move a link names the new indexes of its neighbors.
   moved_to : (j : ℕ) (u v : Option ℕ) → link_map j ≡ Some (link u v)
       → with_link_moved link_map i k (moved_index i k j) ≡ Some (link (option_map (moved_index i k) u) (option_map (moved_index i k) v))
   moved_to j u v links =
       put_to (λ m. option_map (with_moved i k) (link_map m)) j (reports_valid link_map j (link u v) links) ∙ ap (option_map (with_moved i k)) links
 
-  -- Each link after the move was there before it.
   moved_from : (m : ℕ) → HasLink (with_link_moved link_map i k) m → (j : ℕ) × HasLink link_map j × (moved_index i k j ≡ m)
   moved_from m valid =
       let j = put_from (λ (a : ℕ). option_map (with_moved i k) (link_map a)) i k m (record { link = valid.link; links = valid.links }) in
       (j.0, (HasLink-changed (λ (a : ℕ). option_map (with_moved i k) (link_map a)) link_map (with_moved i k) j.0 refl).0 j.1, j.2)
 
-  -- A move is a renaming.
   is_renaming : IsRenaming (index_after_move link_map i k) link_map (with_link_moved link_map i k)
   is_renaming = record {
     apart = λ a b m e f.
@@ -110,21 +94,16 @@ module _ (link_map : LinkMap) (i k : ℕ) (agrees : IsWellLinked link_map) (can 
         ∙ ap₂ (λ (o p : Option ℕ). Some (link o p)) (maps_to u (λ q s. prev_named link_map j agrees q (ap prev_in links ∙ s))) (maps_to v (λ q s. next_named link_map j agrees q (ap next_in links ∙ s))));
   }
 
-  -- ---- writes to the neighbors
-
-  -- There are links at the new indexes of the neighbors.
   neighbor_stored : (o : Option ℕ) → IsValidAt link_map o → IsValidAt (with_link_placed link_map i k) (option_map (moved_index i k) o)
   neighbor_stored None valid m e = absurd (cc)
   neighbor_stored (Some q) valid m e =
       let stored = valid q refl in
       reports_valid (with_link_placed link_map i k) m stored.link (ap (with_link_placed link_map i k) (sym (one_some e)) ∙ (put_to link_map q stored ∙ stored.links))
 
-  -- An index other than i is unchanged.
   named_as_before : (o : Option ℕ) → o ≢ Some i → option_map (moved_index i k) o ≡ o
   named_as_before None differs = refl
   named_as_before (Some q) differs = ap Some (moved_index-other i k q (λ e. differs (ap Some e)))
 
-  -- Writing k to the one link that names i gives each link its new neighbor.
   known : (names now : ℕ → Option ℕ) (o : Option ℕ) (j : ℕ) → ((q : ℕ) → (o ≡ Some q) ↔ (names q ≡ Some i)) → IsValidAt link_map o → HasLink link_map j
       → now (moved_index i k j) ≡ names j → put_at now (option_map (moved_index i k) o) (Some k) (moved_index i k j) ≡ option_map (moved_index i k) (names j)
   known names now None j only valid here as_before = as_before ∙ sym (named_as_before (names j) (λ e. absurd (not_both_ways None j refl ((only j).1 e))))
@@ -138,29 +117,24 @@ module _ (link_map : LinkMap) (i k : ℕ) (agrees : IsWellLinked link_map) (can 
           altered-other now (moved_index i k q) (Some k) (moved_index i k j) (λ e. differs (index_apart j q here (valid q refl) e))
           ∙ (as_before ∙ sym (named_as_before (names j) (λ e. differs (sym (one_some ((only j).1 e))))))
 
-  -- The arena after the write to the link before i.
   abbrev next_known : LinkMap
   next_known = with_next_at (with_link_placed link_map i k) (option_map (moved_index i k) (prev_of link_map i)) (Some k)
 
-  -- The arena after both writes.
   abbrev both_known : LinkMap
   both_known = with_prev_at next_known (option_map (moved_index i k) (next_of link_map i)) (Some k)
 
-  -- The valid indexes after both writes.
   known_valid : (m : ℕ) → HasLink both_known m ↔ HasLink (with_link_placed link_map i k) m
   known_valid m =
       let after = HasLink-with_prev_at next_known (option_map (moved_index i k) (next_of link_map i)) (Some k) m in
       let before = HasLink-with_next_at (with_link_placed link_map i k) (option_map (moved_index i k) (prev_of link_map i)) (Some k) m in
       (λ v. before.0 (after.0 v), λ v. after.1 (before.1 v))
 
-  -- Each `next` after both writes.
   known_next : (j : ℕ) → HasLink link_map j → next_of both_known (moved_index i k j) ≡ option_map (moved_index i k) (next_of link_map j)
   known_next j valid =
       next_of-with_prev_at next_known (option_map (moved_index i k) (next_of link_map i)) (Some k) (moved_index i k j)
       ∙ (next_of-with_next_at (with_link_placed link_map i k) (option_map (moved_index i k) (prev_of link_map i)) (Some k) (moved_index i k j) (neighbor_stored (prev_of link_map i) (prev_named link_map i agrees))
       ∙ known (next_of link_map) (next_of (with_link_placed link_map i k)) (prev_of link_map i) j (λ q. ((agrees.both q i).1, (agrees.both q i).0)) (prev_named link_map i agrees) valid (ap next_in (put_to link_map j valid)))
 
-  -- Each `prev` after both writes.
   known_prev : (j : ℕ) → HasLink link_map j → prev_of both_known (moved_index i k j) ≡ option_map (moved_index i k) (prev_of link_map j)
   known_prev j valid =
       prev_of-with_prev_at next_known (option_map (moved_index i k) (next_of link_map i)) (Some k) (moved_index i k j) after_stored
@@ -171,24 +145,20 @@ module _ (link_map : LinkMap) (i k : ℕ) (agrees : IsWellLinked link_map) (can 
       after_stored m e =
           (HasLink-with_next_at (with_link_placed link_map i k) (option_map (moved_index i k) (prev_of link_map i)) (Some k) m).1 (neighbor_stored (next_of link_map i) (next_named link_map i agrees) m e)
 
-  -- Both writes leave each link as the move does.
   known_reports : (j : ℕ) → HasLink link_map j → both_known (moved_index i k j) ≡ with_link_moved link_map i k (moved_index i k j)
   known_reports j valid =
       let stored = reports_valid (with_link_placed link_map i k) (moved_index i k j) valid.link (put_to link_map j valid ∙ valid.links) in
       reports_both both_known (moved_index i k j) _ _ ((known_valid (moved_index i k j)).1 stored) (known_prev j valid) (known_next j valid)
       ∙ sym (moved_to j (prev_of link_map j) (next_of link_map j) (reports_both link_map j (prev_of link_map j) (next_of link_map j) valid refl refl))
 
-  -- Both writes make the move.
   is_known : both_known ≡ with_link_moved link_map i k
   is_known = same_reported both_known (with_link_moved link_map i k) (λ m v. at m (put_from link_map i k m ((known_valid m).0 v))) (λ m v. at m (moved_from m v))
     where
       at : (m : ℕ) → (j : ℕ) × HasLink link_map j × (moved_index i k j ≡ m) → both_known m ≡ with_link_moved link_map i k m
       at m j = subst (λ (a : ℕ). both_known a ≡ with_link_moved link_map i k a) j.2 (known_reports j.0 j.1)
 
--- A move to a free index is a renaming.
 pub move_renames : MoveRenames
 move_renames link_map i k agrees can = is_renaming link_map i k agrees can
 
--- Only the two neighbors have to be written.
 pub neighbors_determine_a_move : NeighborsDetermineAMove
 neighbors_determine_a_move link_map i k agrees can = is_known link_map i k agrees can

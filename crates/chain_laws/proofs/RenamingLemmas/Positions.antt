@@ -9,19 +9,15 @@ use Rattle.chain_laws.proofs.ListLemmas.Members.{IsMember-or_not}
 use Rattle.chain_laws.proofs.InterlinkLemmas.Inverses.{if_same, if_other}
 use Rattle.chain_laws.proofs.RenamingLemmas.Images.{images-same}
 
--- The place of the first item.
 pub place-same : (n : ℕ) (xs : List ℕ) (i : ℕ) → place_from n (i ∷ xs) i ≡ Some n
 place-same n xs i = if_same i i (Some n) (place_from (suc n) xs i) refl
 
--- The place of an index equal to the first item.
 pub place-first : (n x : ℕ) (xs : List ℕ) (i : ℕ) → x ≡ i → place_from n (x ∷ xs) i ≡ Some n
 place-first n x xs i e = if_same x i (Some n) (place_from (suc n) xs i) e
 
--- The place of an index that is not the first item.
 pub place-other : (n x : ℕ) (xs : List ℕ) (i : ℕ) → x ≢ i → place_from n (x ∷ xs) i ≡ place_from (suc n) xs i
 place-other n x xs i differs = if_other x i (Some n) (place_from (suc n) xs i) differs
 
--- A place is from the first to the last.
 pub place-within : (n : ℕ) (xs : List ℕ) (i k : ℕ) → place_from n xs i ≡ Some k → (n ≤ k) × (k < n + length xs)
 place-within n [] i k e = absurd (cc)
 place-within n (x ∷ xs) i k e = by (ℕ_discrete x i) (place-within (suc n) xs i k)
@@ -37,7 +33,6 @@ place-within n (x ∷ xs) i k e = by (ℕ_discrete x i) (place-within (suc n) xs
         let high : k < suc n + length xs = w.1 in
         (omega arith, omega arith)
 
--- No two indexes have the same place.
 pub place-apart : (n : ℕ) (xs : List ℕ) (i j k : ℕ) → place_from n xs i ≡ Some k → place_from n xs j ≡ Some k → i ≡ j
 place-apart n [] i j k e f = absurd (cc)
 place-apart n (x ∷ xs) i j k e f = by (ℕ_discrete x i) (ℕ_discrete x j) (place-apart (suc n) xs i j k)
@@ -56,7 +51,6 @@ place-apart n (x ∷ xs) i j k e f = by (ℕ_discrete x i) (ℕ_discrete x j) (p
     by (no d) (yes t) rest = absurd (first j i t d f e)
     by (no c) (no d) rest = rest (sym (place-other n x xs i c) ∙ e) (sym (place-other n x xs j d) ∙ f)
 
--- An index with a place is in the list.
 pub place-has : (n : ℕ) (xs : List ℕ) (i k : ℕ) → place_from n xs i ≡ Some k → IsMember xs i
 place-has n [] i k e = absurd (cc)
 place-has n (x ∷ xs) i k e = by (ℕ_discrete x i) (place-has (suc n) xs i k)
@@ -65,7 +59,6 @@ place-has n (x ∷ xs) i k e = by (ℕ_discrete x i) (place-has (suc n) xs i k)
     by (yes s) rest = inl s
     by (no differs) rest = inr (rest (sym (place-other n x xs i differs) ∙ e))
 
--- An index in the list has a place.
 pub has-place : (n : ℕ) (xs : List ℕ) (i : ℕ) → IsMember xs i → (k : ℕ) × (place_from n xs i ≡ Some k)
 has-place n [] i h = absurd h
 has-place n (x ∷ xs) i h = by (ℕ_discrete x i) h (has-place (suc n) xs i)
@@ -75,14 +68,10 @@ has-place n (x ∷ xs) i h = by (ℕ_discrete x i) h (has-place (suc n) xs i)
     by (no differs) (inl s) rest = absurd (differs s)
     by (no differs) (inr m) rest = let w = rest m in (w.0, place-other n x xs i differs ∙ w.1)
 
--- An index that is not in the list has no place.
 pub place-none : (n : ℕ) (xs : List ℕ) (i : ℕ) → (IsMember xs i → ⊥) → place_from n xs i ≡ None
 place-none n [] i not = refl
 place-none n (x ∷ xs) i not = place-other n x xs i (λ s. not (inl s)) ∙ place-none (suc n) xs i (λ h. not (inr h))
 
--- ---- two lists, one after the other
-
--- An item of the first keeps its place.
 pub place-front : (n : ℕ) (xs ys : List ℕ) (i : ℕ) → IsMember xs i → place_from n (xs ++ ys) i ≡ place_from n xs i
 place-front n [] ys i h = absurd h
 place-front n (x ∷ xs) ys i h = by (ℕ_discrete x i) h (place-front (suc n) xs ys i)
@@ -92,7 +81,6 @@ place-front n (x ∷ xs) ys i h = by (ℕ_discrete x i) h (place-front (suc n) x
     by (no differs) (inl s) rest = absurd (differs s)
     by (no differs) (inr m) rest = place-other n x (xs ++ ys) i differs ∙ (rest m ∙ sym (place-other n x xs i differs))
 
--- Any other index has its place in the second, shifted.
 pub place-append : (n : ℕ) (xs ys : List ℕ) (i : ℕ) → (IsMember xs i → ⊥) → place_from n (xs ++ ys) i ≡ place_from (n + length xs) ys i
 place-append n [] ys i not = ap (λ (m : ℕ). place_from m ys i) (let e : n ≡ n + 0 = omega arith in e)
 place-append n (x ∷ xs) ys i not =
@@ -100,11 +88,9 @@ place-append n (x ∷ xs) ys i not =
     ∙ (place-append (suc n) xs ys i (λ h. not (inr h))
     ∙ ap (λ (m : ℕ). place_from m ys i) (let e : suc n + length xs ≡ n + length (x ∷ xs) = omega arith in e))
 
--- The place of an item appended to a list is the last.
 pub place-last : (xs : List ℕ) (x : ℕ) → (IsMember xs x → ⊥) → place_in (xs ++ x ∷ []) x ≡ Some (length xs + 1)
 place-last xs x not = place-append 1 xs (x ∷ []) x not ∙ (place-same (1 + length xs) [] x ∙ ap Some (let e : 1 + length xs ≡ length xs + 1 = omega arith in e))
 
--- The other places are unchanged.
 pub place-before_last : (xs : List ℕ) (x i : ℕ) → x ≢ i → place_in (xs ++ x ∷ []) i ≡ place_in xs i
 place-before_last xs x i differs = by (IsMember-or_not xs i)
   where
@@ -112,9 +98,6 @@ place-before_last xs x i differs = by (IsMember-or_not xs i)
     by (inl h) = place-front 1 xs (x ∷ []) i h
     by (inr not) = place-append 1 xs (x ∷ []) i not ∙ (place-other (1 + length xs) x [] i differs ∙ sym (place-none 1 xs i not))
 
--- ---- the numbers
-
--- The places of a distinct list are consecutive.
 pub place-numbers : (n : ℕ) (xs : List ℕ) → AreDistinct xs → AreImages (place_from n xs) xs (range_with_len n (length xs))
 place-numbers n [] once = tt
 place-numbers n (x ∷ xs) once = (
@@ -125,10 +108,8 @@ place-numbers n (x ∷ xs) once = (
     later : (i : ℕ) → IsMember xs i → place_from (suc n) xs i ≡ place_from n (x ∷ xs) i
     later i h = sym (place-other n x xs i (λ s. once.0 (subst (IsMember xs) (sym s) h)))
 
--- The k-th item of an arrangement is moved to k.
 pub arrangement_numbers : ArrangementNumbers
 arrangement_numbers link_map indexes arranges = place-numbers 1 indexes arranges.once
 
--- No two items are moved to the same index.
 pub places_are_apart : PlacesAreApart
 places_are_apart indexes i j k e f = place-apart 1 indexes i j k e f

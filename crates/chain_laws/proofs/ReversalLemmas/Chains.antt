@@ -12,25 +12,21 @@ use Rattle.chain_laws.proofs.WalkLemmas.Members.{IsMember-reversed, AreDistinct-
 use Rattle.chain_laws.proofs.WalkLemmas.Walker.{first_or-reversed}
 use Rattle.chain_laws.proofs.ReversalLemmas.Turns.{turns-at, turns-elsewhere}
 
--- A linked list whose links are turned is linked in the other order, before what was.
 AreLinked-turned : (old new : LinkMap) (xs zs : List ℕ) (after far : Option ℕ) → ((j : ℕ) → IsMember xs j → new j ≡ option_map turned (old j))
     → AreLinked old (first_or zs far) xs after → AreLinked new (first_or xs after) zs far → AreLinked new after (reverse_aux xs zs) far
 AreLinked-turned old new [] zs after far each s t = t
 AreLinked-turned old new (x ∷ xs) zs after far each s t =
     AreLinked-turned old new xs (x ∷ zs) after far (λ j h. each j (inr h)) s.1 (each x (inl refl) ∙ ap (option_map turned) s.0, t)
 
--- The last item of a reversed list is the first of the list.
 last_or-reversed : (xs zs : List ℕ) (before : Option ℕ) → last_or (reverse_aux xs zs) before ≡ last_or zs (first_or xs before)
 last_or-reversed [] zs before = refl
 last_or-reversed (x ∷ xs) zs before = last_or-reversed xs (x ∷ zs) before
 
--- A reversed list has an item if the list has one.
 reversed-filled : (xs : List ℕ) → xs ≢ [] → reverse xs ≢ []
 reversed-filled xs filled e =
     let first = filled-IsMember xs filled in
     subst (λ (zs : List ℕ). IsMember zs first.0) e ((IsMember-reversed xs [] first.0).1 (inl first.1))
 
--- The links of a reversed list, and of a reversed chain, are those of the list or chain.
 list-has : (xs : List ℕ) (j : ℕ) → IsMember (reverse xs) j ↔ IsMember xs j
 list-has xs j = (λ h. ⊎_elim (λ k. k) (λ n. absurd n) ((IsMember-reversed xs [] j).0 h), λ h. (IsMember-reversed xs [] j).1 (inl h))
 
@@ -38,7 +34,6 @@ reversed-has : (c : Chain) (j : ℕ) → IsMember (items (reversed c)) j ↔ IsM
 reversed-has (linear xs) j = list-has xs j
 reversed-has (cyclic xs) j = list-has xs j
 
--- A chain whose links are turned is reversed.
 reversed-chain : (old new : LinkMap) (c : Chain) → ((j : ℕ) → IsMember (items c) j → new j ≡ option_map turned (old j)) → IsChain old c → IsChain new (reversed c)
 reversed-chain old new (linear xs) each c =
     (reversed-filled xs c.0, AreDistinct-reversed xs [] c.1 tt (λ y h n. n), AreLinked-turned old new xs [] None None each c.2 tt)
@@ -50,7 +45,6 @@ reversed-chain old new (cyclic xs) each c = (
       (AreLinked-turned old new xs [] (first_or xs None) (last_or xs None) each c.2 tt)),
 )
 
--- Turning the links of a walk reverses their chain, and no other.
 pub reversal_reverses : ReversalReverses
 reversal_reverses link_map i walk is_walk = record {
   chain = chain;
@@ -83,7 +77,6 @@ reversal_reverses link_map i walk is_walk = record {
     shared_after c h j m w =
         chains_share new (reversed own.0) c j i (chain own.0 own.1 own_has) h ((reversed-has own.0 j).1 ((own.2 j).0 w)) m ((reversed-has own.0 i).1 own_has)
 
--- A chain reversed twice is as it was.
 pub reversal_twice_restores : ReversalTwiceRestores
 reversal_twice_restores link_map i j walk back is_walk has is_back = λ at k. each k (IsMember-or_not walk k) at
   where

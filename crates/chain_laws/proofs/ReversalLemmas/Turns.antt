@@ -9,13 +9,11 @@ use Rattle.chain_laws.proofs.InterlinkLemmas.Inverses.{if_same, if_other}
 use Rattle.chain_laws.proofs.ChainLemmas.Uniqueness.{HasAllNeighbors, chain_closed}
 use Rattle.chain_laws.proofs.WalkLemmas.Members.{walk_once, walk_chain}
 
--- A link that is not among those turned stays.
 pub turns-elsewhere : (link_map : LinkMap) (xs : List ℕ) (j : ℕ) → (IsMember xs j → ⊥) → with_turns link_map xs j ≡ link_map j
 turns-elsewhere link_map [] j out = refl
 turns-elsewhere link_map (x ∷ xs) j out =
     turns-elsewhere (with_turn link_map x) xs j (λ h. out (inr h)) ∙ if_other j x _ _ (λ e. out (inl (sym e)))
 
--- A link among distinct ones that are turned is turned.
 pub turns-at : (link_map : LinkMap) (xs : List ℕ) (j : ℕ) → AreDistinct xs → IsMember xs j → with_turns link_map xs j ≡ option_map turned (link_map j)
 turns-at link_map [] j once h = elim h [ ]
 turns-at link_map (x ∷ xs) j once (inl e) =
@@ -23,7 +21,6 @@ turns-at link_map (x ∷ xs) j once (inl e) =
 turns-at link_map (x ∷ xs) j once (inr h) =
     turns-at (with_turn link_map x) xs j once.1 h ∙ ap (option_map turned) (if_other j x _ _ (λ e. once.0 (subst (IsMember xs) e h)))
 
--- A link turned names its former previous link as next, and its former next link as previous.
 pub turned-names : (old new : LinkMap) (j : ℕ) → new j ≡ option_map turned (old j) → (next_of new j ≡ prev_of old j) × (prev_of new j ≡ next_of old j)
 turned-names old new j e = (ap next_in e ∙ next_by (old j), ap prev_in e ∙ prev_by (old j))
   where
@@ -35,7 +32,6 @@ turned-names old new j e = (ap next_in e ∙ next_by (old j), ap prev_in e ∙ p
     prev_by None = refl
     prev_by (Some l) = refl
 
--- The neighbors of the links of a walk are links of it.
 walk_closed : (link_map : LinkMap) (i : ℕ) (walk : List ℕ) → IsWalk link_map i walk → HasAllNeighbors link_map (IsMember walk)
 walk_closed link_map i walk is_walk =
     let own = walk_chain link_map i walk is_walk in
@@ -44,7 +40,6 @@ walk_closed link_map i walk is_walk =
       back = λ j k h e. (own.2 k).1 (closed.back j k ((own.2 j).0 h) e);
     }
 
--- Turning the links of a walk keeps the arena well linked.
 pub reversal_agrees : ReversalAgrees
 reversal_agrees link_map i walk agrees is_walk =
     record { both = λ j k. (there j k (IsMember-or_not walk j), back j k (IsMember-or_not walk k)) }

@@ -54,7 +54,6 @@ module _ (link_map : LinkMap) (p first last : ℕ) (agrees : IsWellLinked link_m
   is_v : v ≡ b p
   is_v = next_of-rest link_map p first last agrees valid_p valid_first valid_last apart p
 
-  -- What follows each link.
   h_last : h last ≡ b p
   h_last = next_of-spliced link_map p first last agrees valid_p valid_first valid_last apart last ∙ onward_last f g p first last v agrees.both apart is_v last refl ∙ is_v
 
@@ -71,7 +70,6 @@ module _ (link_map : LinkMap) (p first last : ℕ) (agrees : IsWellLinked link_m
   b_other : (i : ℕ) → g first ≢ Some i → b i ≡ f i
   b_other i ne = put_at-other f (g first) (f last) i ne
 
-  -- A start of a chain, other than `first`, stays one.
   start_stays : (i : ℕ) → g i ≡ None → i ≢ first → k i ≡ None
   start_stays i none ne =
       prev_of-spliced link_map p first last agrees valid_p valid_first valid_last apart i
@@ -86,7 +84,6 @@ module _ (link_map : LinkMap) (p first last : ℕ) (agrees : IsWellLinked link_m
           (λ other. not_after p (sym (v_stays f g p first last v agrees.both apart is_v other) ∙ w))
           (names_or_not (g first) p)
 
-  -- What follows a run at the start of its chain becomes the start.
   start_follows : (i : ℕ) → g first ≡ None → f last ≡ Some i → k i ≡ None
   start_follows i none e =
       prev_of-spliced link_map p first last agrees valid_p valid_first valid_last apart i
@@ -94,8 +91,6 @@ module _ (link_map : LinkMap) (p first last : ℕ) (agrees : IsWellLinked link_m
       (v_not_past f g p first last v agrees.both apart is_v (λ at_p. not_both_ways (g first) p none at_p) i e)
       (λ s. not_both_ways (g first) last none (ap g (sym s) ∙ (agrees.both last i).0 e))
       ∙ put_at-same g (f last) (g first) i e ∙ none
-
-  -- ---- chains of the new arena
 
   linear_chain : (xs : List ℕ) → xs ≢ [] → AreFollowed h xs None → ((i : ℕ) → IsMember xs i → HasLink link_map i)
       → ((i : ℕ) → first_or xs None ≡ Some i → k i ≡ None) → IsChain new (linear xs)
@@ -126,8 +121,6 @@ module _ (link_map : LinkMap) (p first last : ℕ) (agrees : IsWellLinked link_m
               let l = last_or-filled (y ∷ ys) y (inl refl) in
               not_both_ways (last_or ys (Some y)) l.0 none (l.1 None)
       start i (Some l) is e = (new_agrees.both l i).0 (AreFollowed-last h xs (first_or xs None) l followed is ∙ e) ∙ sym is
-
-  -- ---- the run put after p
 
   placed : (u run w : List ℕ) (after : Option ℕ) → IsRun run first last → IsFollowedRun f (HasLink link_map) run → IsRestOfChain b (HasLink link_map) run (u ++ p ∷ w) after
       → AreFollowed h (u ++ p ∷ run ++ w) after
@@ -179,9 +172,6 @@ module _ (link_map : LinkMap) (p first last : ℕ) (agrees : IsWellLinked link_m
       (subst (AreFollowed h (u ++ p ∷ run ++ w)) (sym (placed_first u run w p)) (placed u run w (first_or (u ++ p ∷ w) None) is_run its rest))
       (λ i m. ⊎_elim (rest.valid i) (its.valid i) (placed_members u run w p i m))
 
-  -- ---- the run taken out
-
-  -- The links of a run of a chain follow one another.
   run_of : (c : Chain) (run : List ℕ) → IsChain link_map c → HasRun c run → IsFollowedRun f (HasLink link_map) run
   run_of c run chain has =
       let whole : AreFollowed f (has.0 ++ run ++ has.1) (after_last c) =
@@ -193,7 +183,6 @@ module _ (link_map : LinkMap) (p first last : ℕ) (agrees : IsWellLinked link_m
         valid = λ i m. chain_valid link_map c i chain (subst (λ (xs : List ℕ). IsMember xs i) (sym has.2) (run_members has.0 run has.1 i m));
       }
 
-  -- What precedes and follows a run in a linked list.
   run_prev : (before : Option ℕ) (run w : List ℕ) (after : Option ℕ) → IsRun run first last → AreLinked link_map before (run ++ w) after → g first ≡ before
   run_prev before [] w after is_run stored = absurd (cc)
   run_prev before (x ∷ xs) w after is_run stored = ap g (sym (one_some is_run.0)) ∙ ap prev_in stored.0
@@ -231,7 +220,6 @@ module _ (link_map : LinkMap) (p first last : ℕ) (agrees : IsWellLinked link_m
       last_member : (i : ℕ) → last_or x None ≡ Some i → IsMember x i
       last_member i e = ⊎_elim (λ m. m) (λ (n : None ≡ Some i). absurd (cc)) (last_or-IsMember x None i e)
 
-  -- The start of what is left.
   taken_start : (x run w : List ℕ) → IsRun run first last → IsChain link_map (linear (x ++ run ++ w)) → (i : ℕ) → first_or (x ++ w) None ≡ Some i → k i ≡ None
   taken_start [] run w is_run chain i e =
       start_follows i (run_prev None run w None is_run chain.2) (run_next run w None is_run (AreLinked-followed link_map None (run ++ w) None chain.2) ∙ e)
@@ -263,8 +251,6 @@ module _ (link_map : LinkMap) (p first last : ℕ) (agrees : IsWellLinked link_m
       after : f last ≡ Some y
       after = run_next run (y ∷ w) (first_or (run ++ y ∷ w) None) is_run followed
 
-  -- ---- a chain without the run
-
   other_rest : (c : Chain) (run : List ℕ) → IsChain link_map c → (IsMember (items c) first → ⊥) → ((i : ℕ) → IsMember run i → IsMember (items c) i → ⊥)
       → IsRestOfChain b (HasLink link_map) run (items c) (after_last c)
   other_rest c run chain no_first out = record {
@@ -281,12 +267,10 @@ module _ (link_map : LinkMap) (p first last : ℕ) (agrees : IsWellLinked link_m
   other_start (x ∷ xs) chain no_first i e =
       start_stays i (ap g (sym (one_some e)) ∙ ap prev_in chain.2.0) (λ s. no_first (inl (one_some e ∙ s)))
 
-  -- Links without p and `last` are followed as they were.
   kept : (run xs : List ℕ) (after : Option ℕ) → IsRestOfChain b (HasLink link_map) run xs after → (IsMember xs p → ⊥) → (IsMember xs last → ⊥) → AreFollowed h xs after
   kept run xs after rest no_p no_last =
       AreFollowed-frame b h xs after (λ i m. h_other i (λ e. no_last (subst (IsMember xs) e m)) (λ e. no_p (subst (IsMember xs) e m))) rest.followed
 
-  -- A chain with none of the three stays.
   stays : (c : Chain) → (IsMember (items c) p → ⊥) → (IsMember (items c) first → ⊥) → (IsMember (items c) last → ⊥) → IsChain link_map c → IsChain new c
   stays (linear xs) no_p no_first no_last chain =
       let rest = other_rest (linear xs) [] chain no_first (λ i m n. m) in
@@ -295,7 +279,6 @@ module _ (link_map : LinkMap) (p first last : ℕ) (agrees : IsWellLinked link_m
       let rest = other_rest (cyclic xs) [] chain no_first (λ i m n. m) in
       cyclic_chain xs chain.0 chain.1 (kept [] xs (first_or xs None) rest no_p no_last) rest.valid
 
-  -- No link of a chain without p is in the chain of p.
   out_of : (c d : Chain) (run : List ℕ) → IsChain link_map c → IsChain link_map d → HasRun c run → (IsMember (items c) p → ⊥) → IsMember (items d) p
       → (i : ℕ) → IsMember run i → IsMember (items d) i → ⊥
   out_of c d run chain other has no_p has_p i m n =
@@ -338,6 +321,5 @@ module _ (link_map : LinkMap) (p first last : ℕ) (agrees : IsWellLinked link_m
     links = HasLink-spliced link_map p first last agrees valid_p valid_first valid_last apart;
   }
 
--- A move of a run changes chains as stated.
 pub splice_splices : SpliceSplices
 splice_splices link_map p first last agrees valid_p valid_first valid_last apart = spliced_splices link_map p first last agrees valid_p valid_first valid_last apart

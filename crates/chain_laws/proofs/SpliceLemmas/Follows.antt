@@ -12,27 +12,22 @@ abbrev pub AreFollowed : (ℕ → Option ℕ) → List ℕ → Option ℕ → Ty
 AreFollowed f [] after = Unit {0}
 AreFollowed f (x ∷ xs) after = (f x ≡ first_or xs after) × AreFollowed f xs after
 
--- Two lists in succession are one.
 pub AreFollowed-append : (f : ℕ → Option ℕ) (xs ys : List ℕ) (after : Option ℕ) → AreFollowed f xs (first_or ys after) → AreFollowed f ys after → AreFollowed f (xs ++ ys) after
 AreFollowed-append f [] ys after s t = t
 AreFollowed-append f (x ∷ xs) ys after s t = (s.0 ∙ sym (first_or-append xs ys after), AreFollowed-append f xs ys after s.1 t)
 
--- The left part of a list.
 pub AreFollowed-left : (f : ℕ → Option ℕ) (xs ys : List ℕ) (after : Option ℕ) → AreFollowed f (xs ++ ys) after → AreFollowed f xs (first_or ys after)
 AreFollowed-left f [] ys after s = tt
 AreFollowed-left f (x ∷ xs) ys after s = (s.0 ∙ first_or-append xs ys after, AreFollowed-left f xs ys after s.1)
 
--- The right part of a list.
 pub AreFollowed-right : (f : ℕ → Option ℕ) (xs ys : List ℕ) (after : Option ℕ) → AreFollowed f (xs ++ ys) after → AreFollowed f ys after
 AreFollowed-right f [] ys after s = s
 AreFollowed-right f (x ∷ xs) ys after s = AreFollowed-right f xs ys after s.1
 
--- Functions that map the items alike.
 pub AreFollowed-frame : (f h : ℕ → Option ℕ) (xs : List ℕ) (after : Option ℕ) → ((i : ℕ) → IsMember xs i → h i ≡ f i) → AreFollowed f xs after → AreFollowed h xs after
 AreFollowed-frame f h [] after same s = tt
 AreFollowed-frame f h (x ∷ xs) after same s = (same x (inl refl) ∙ s.0, AreFollowed-frame f h xs after (λ i m. same i (inr m)) s.1)
 
--- A function that maps only the last item elsewhere.
 pub AreFollowed-redirected : (f h : ℕ → Option ℕ) (xs : List ℕ) (after other : Option ℕ) → AreDistinct xs
     → ((i : ℕ) → last_or xs None ≡ Some i → h i ≡ other) → ((i : ℕ) → IsMember xs i → last_or xs None ≢ Some i → h i ≡ f i) → AreFollowed f xs after → AreFollowed h xs other
 AreFollowed-redirected f h [] after other once at same s = tt
@@ -45,7 +40,6 @@ AreFollowed-redirected f h (x ∷ y ∷ ys) after other once at same s = (
     not_last : last_or ys (Some y) ≢ Some x
     not_last e = ⊎_elim (λ m. once.0 (inr m)) (λ d. once.0 (inl (one_some d))) (last_or-IsMember ys (Some y) x e)
 
--- Each item but the last is mapped to an item that is not the first one.
 pub AreFollowed-within : (f : ℕ → Option ℕ) (x : ℕ) (xs : List ℕ) (after : Option ℕ) (i : ℕ) → AreFollowed f (x ∷ xs) after → IsMember (x ∷ xs) i
     → last_or (x ∷ xs) None ≢ Some i → (j : ℕ) × (f i ≡ Some j) × IsMember xs j
 AreFollowed-within f x [] after i s (inl e) not_last = absurd (not_last (ap Some e))
@@ -55,23 +49,19 @@ AreFollowed-within f x (y ∷ ys) after i s (inr m) not_last =
     let w = AreFollowed-within f y ys after i s.1 m not_last in
     (w.0, w.1, inr w.2)
 
--- The last item is mapped to `after`.
 pub AreFollowed-last : (f : ℕ → Option ℕ) (xs : List ℕ) (after : Option ℕ) (i : ℕ) → AreFollowed f xs after → last_or xs None ≡ Some i → f i ≡ after
 AreFollowed-last f [] after i s e = absurd (cc)
 AreFollowed-last f (x ∷ []) after i s e = ap f (sym (one_some e)) ∙ s.0
 AreFollowed-last f (x ∷ y ∷ ys) after i s e = AreFollowed-last f (y ∷ ys) after i s.1 e
 
--- The first item of a list that has one does not depend on what comes after the list.
 pub first_or-Some : (xs : List ℕ) (after : Option ℕ) (i : ℕ) → first_or xs None ≡ Some i → first_or xs after ≡ Some i
 first_or-Some [] after i e = absurd (cc)
 first_or-Some (x ∷ xs) after i e = e
 
--- `next` maps each item of a linked list to the item after it.
 pub AreLinked-followed : (link_map : LinkMap) (before : Option ℕ) (xs : List ℕ) (after : Option ℕ) → AreLinked link_map before xs after → AreFollowed (next_of link_map) xs after
 AreLinked-followed link_map before [] after s = tt
 AreLinked-followed link_map before (x ∷ xs) after s = (ap next_in s.0, AreLinked-followed link_map (Some x) xs after s.1)
 
--- In a well-linked arena, such a list of links is linked.
 pub followed-AreLinked : (link_map : LinkMap) (before : Option ℕ) (xs : List ℕ) (after : Option ℕ) → IsWellLinked link_map → AreFollowed (next_of link_map) xs after
     → ((i : ℕ) → IsMember xs i → HasLink link_map i) → ((i : ℕ) → first_or xs None ≡ Some i → prev_of link_map i ≡ before) → AreLinked link_map before xs after
 followed-AreLinked link_map before [] after agrees s valid start = tt
@@ -80,24 +70,18 @@ followed-AreLinked link_map before (x ∷ xs) after agrees s valid start = (
   followed-AreLinked link_map (Some x) xs after agrees s.1 (λ i m. valid i (inr m)) (λ i e. (agrees.both x i).0 (s.0 ∙ first_or-Some xs after i e)),
 )
 
--- ---- a run among other items
-
--- A run has its first item.
 pub run_has_first : (run : List ℕ) (first last : ℕ) → IsRun run first last → IsMember run first
 run_has_first run first last is_run = ⊎_elim (λ m. m) (λ (n : None ≡ Some first). absurd (cc)) (first_or-IsMember run None first is_run.0)
 
--- A run has its last item.
 pub run_has_last : (run : List ℕ) (first last : ℕ) → IsRun run first last → IsMember run last
 run_has_last run first last is_run = ⊎_elim (λ m. m) (λ (n : None ≡ Some last). absurd (cc)) (last_or-IsMember run None last is_run.1)
 
--- The items around a run, and those of the run, are items of the whole.
 pub around_members : (x run w : List ℕ) (i : ℕ) → IsMember (x ++ w) i → IsMember (x ++ run ++ w) i
 around_members x run w i m = ⊎_elim (λ h. IsMember-left (x ++ run) w i (IsMember-left x run i h)) (λ h. IsMember-right (x ++ run) w i h) (IsMember-parts x w i m)
 
 pub run_members : (x run w : List ℕ) (i : ℕ) → IsMember run i → IsMember (x ++ run ++ w) i
 run_members x run w i m = IsMember-left (x ++ run) w i (IsMember-right x run i m)
 
--- A run among distinct items is distinct, as are the items around it, and they are apart.
 pub run_once : (x run w : List ℕ) → AreDistinct (x ++ run ++ w) → AreDistinct run
 run_once x run w once = AreDistinct-right x run (AreDistinct-left (x ++ run) w once)
 
@@ -112,7 +96,6 @@ run_apart x run w i once m h = ⊎_elim
     (λ k. AreDistinct-apart (x ++ run) w i once (IsMember-right x run i m) k)
     (IsMember-parts x w i h)
 
--- A run put after p: the items, and that they are distinct.
 pub placed_members : (u run v : List ℕ) (p i : ℕ) → IsMember (u ++ p ∷ run ++ v) i → IsMember (u ++ p ∷ v) i ⊎ IsMember run i
 placed_members u run v p i m = by (IsMember-parts (u ++ p ∷ run) v i m)
   where
@@ -138,7 +121,6 @@ placed_once u run v p once inner apart =
         (⊎_elim (λ e. (AreDistinct-right u (p ∷ v) once).0 (subst (IsMember v) (sym e) k)) (λ m. apart y m (IsMember-right u (p ∷ v) y (inr k))))
         (IsMember-parts u (p ∷ run) y h)
 
--- A run put after p does not change the first item.
 pub placed_first : (u run v : List ℕ) (p : ℕ) → first_or (u ++ p ∷ run ++ v) None ≡ first_or (u ++ p ∷ v) None
 placed_first [] run v p = refl
 placed_first (x ∷ u) run v p = refl

@@ -11,7 +11,6 @@ use Rattle.chain_laws.proofs.InterlinkLemmas.Skips.{names_or_not}
 use Rattle.chain_laws.proofs.InsertionLemmas.Pairs.{put_at-same, put_at-other}
 use Rattle.chain_laws.proofs.ChainLemmas.LinkedLists.{next_valid, prev_valid}
 
--- What a write at an index leaves there depends on what was there alone.
 put_at-alike : (f h : ℕ → Option ℕ) (u o : Option ℕ) (j : ℕ) → f j ≡ h j → put_at f u o j ≡ put_at h u o j
 put_at-alike f h None o j e = e
 put_at-alike f h (Some i) o j e = ap (λ (r : Option ℕ). if j == i then o else r) e
@@ -29,7 +28,6 @@ abbrev pub prev_with_splice : (f g : ℕ → Option ℕ) (p first last : ℕ) (v
 prev_with_splice f g p first last v = put_at (altered (put_at g (f last) (g first)) first (Some p)) v (Some last)
 
 module _ (f g : ℕ → Option ℕ) (p first last : ℕ) (v : Option ℕ) (each : Undoes f g) (apart : p ≢ last) (is_v : v ≡ next_without_run f g first last p) where
-  -- p was before the run, or not.
   pub v_past : g first ≡ Some p → v ≡ f last
   v_past at_p = is_v ∙ put_at-same f (g first) (f last) p at_p
 
@@ -39,7 +37,6 @@ module _ (f g : ℕ → Option ℕ) (p first last : ℕ) (v : Option ℕ) (each 
   once : (i j k : ℕ) → f i ≡ Some k → f j ≡ Some k → i ≡ j
   once i j k e d = one_some (sym ((each i k).0 e) ∙ (each j k).0 d)
 
-  -- Nothing but p or `last` is followed by v.
   pub v_only : (i j : ℕ) → i ≢ last → i ≢ p → f i ≡ Some j → v ≢ Some j
   v_only i j not_last not_p e w = ⊎_elim
       (λ at_p. not_last (once i last j e (sym (v_past at_p) ∙ w)))
@@ -55,7 +52,6 @@ module _ (f g : ℕ → Option ℕ) (p first last : ℕ) (v : Option ℕ) (each 
   pub v_not_past : g first ≢ Some p → (j : ℕ) → f last ≡ Some j → v ≢ Some j
   v_not_past ne j e w = apart (once p last j (sym (v_stays ne) ∙ w) e)
 
-  -- What follows each index now.
   pub onward_last : (i : ℕ) → i ≡ last → next_with_splice f g p first last v i ≡ v
   onward_last i e = altered-same (altered (next_without_run f g first last) p (Some first)) last v i e
 
@@ -66,7 +62,6 @@ module _ (f g : ℕ → Option ℕ) (p first last : ℕ) (v : Option ℕ) (each 
   onward_other i not_last not_p =
       altered-other (altered (next_without_run f g first last) p (Some first)) last v i not_last ∙ altered-other (next_without_run f g first last) p (Some first) i not_p
 
-  -- What precedes each index now.
   pub back_v : (j : ℕ) → v ≡ Some j → prev_with_splice f g p first last v j ≡ Some last
   back_v j e = put_at-same (altered (put_at g (f last) (g first)) first (Some p)) v (Some last) j e
 
@@ -181,6 +176,5 @@ module _ (link_map : LinkMap) (p first last : ℕ) (agrees : IsWellLinked link_m
         (splice_undoes (next_of link_map) (prev_of link_map) p first last beyond agrees.both apart (next_of-rest p));
   }
 
--- A move of a run keeps the arena well linked.
 pub splice_agrees : SpliceAgrees
 splice_agrees link_map p first last agrees valid_p valid_first valid_last apart = spliced_agrees link_map p first last agrees valid_p valid_first valid_last apart

@@ -92,7 +92,6 @@ module _ (link_map : LinkMap) (p first last a : ℕ) (agrees : IsWellLinked link
       (λ valid. inner.0 (outer.0 valid), λ valid. outer.1 (inner.1 valid)))
       (λ i j. (λ e. sym (next_back i) ∙ e, λ e. next_back i ∙ e))
 
--- A run moved back is where it was.
 pub splice_back_restores : SpliceBackRestores
 splice_back_restores link_map p first last a agrees valid_p valid_first valid_last apart before other =
     spliced_back_restores link_map p first last a agrees valid_p valid_first valid_last apart before other

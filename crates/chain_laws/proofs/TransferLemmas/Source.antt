@@ -16,7 +16,6 @@ use Rattle.chain_laws.proofs.RemovalLemmas.Chains.{removed_from_linear, removed_
 
 -- A chain written from `here` is cyclic exactly if `here` has a prev.
 module _ (link_map : LinkMap) (here : ℕ) where
-  -- The first link of a linear chain has none before it.
   linear_first : (xs : List ℕ) → IsChain link_map (linear xs) → first_or xs None ≡ Some here
       → (ys : List ℕ) × (linear xs ≡ chain_of (is_some (prev_of link_map here)) (here ∷ ys)) × (xs ≡ here ∷ ys)
   linear_first [] h e = absurd (cc)
@@ -25,7 +24,6 @@ module _ (link_map : LinkMap) (here : ℕ) where
       let none : prev_of link_map here ≡ None = ap (prev_of link_map) (sym same) ∙ ap prev_in h.2.0 in
       (ys, ap (λ (zs : List ℕ). linear zs) (ap (λ (z : ℕ). z ∷ ys) same) ∙ sym (ap (λ (o : Option ℕ). chain_of (is_some o) (here ∷ ys)) none), ap (λ (z : ℕ). z ∷ ys) same)
 
-  -- The first link of a cyclic chain has one before it.
   cyclic_first : (x : ℕ) (xs : List ℕ) → IsChain link_map (cyclic (x ∷ xs)) → here ≡ x
       → (ys : List ℕ) × (cyclic (x ∷ xs) ≡ chain_of (is_some (prev_of link_map here)) (here ∷ ys)) × (x ∷ xs ≡ here ∷ ys)
   cyclic_first x xs h e =
@@ -33,7 +31,6 @@ module _ (link_map : LinkMap) (here : ℕ) where
       let some : prev_of link_map here ≡ Some l.0 = ap (prev_of link_map) e ∙ (ap prev_in h.2.0 ∙ l.1 None) in
       (xs, ap (λ (z : ℕ). cyclic (z ∷ xs)) (sym e) ∙ sym (ap (λ (o : Option ℕ). chain_of (is_some o) (here ∷ xs)) some), ap (λ (z : ℕ). z ∷ xs) (sym e))
 
-  -- The chain of the least index of all, written from its start.
   from_start : (c : Chain) (i : ℕ) → IsChain link_map c → StartsAtLeast c → IsMember (items c) i → ((j : ℕ) → HasLink link_map j → i ≤ j) → IsStart link_map i here
       → (ys : List ℕ) × (c ≡ chain_of (is_some (prev_of link_map here)) (here ∷ ys)) × (items c ≡ here ∷ ys)
   from_start (linear xs) i h w m least start = linear_first xs h (start.in_linear xs h m)
@@ -59,12 +56,10 @@ least_is_next link_map (c ∷ rest) i here are order valid least start =
         let high = least order.ascends.0.0 (chain_valid link_map c order.ascends.0.0 (are.each c (inl refl)) order.ascends.0.1) in
         absurd (omega arith)
 
--- The rest of the chain, if it is not empty.
 left_chain : (link_map : LinkMap) (ring : Bool) (x : ℕ) (xs : List ℕ) → IsChain link_map (chain_of ring (x ∷ xs)) → xs ≢ [] → IsChain (with_removal link_map x) (chain_of ring xs)
 left_chain link_map false x xs h filled = removed_from_linear link_map x [] xs h filled
 left_chain link_map true x xs h filled = removed_first_of_cyclic link_map x xs h filled
 
--- The next link is the first of the rest.
 next_left : (link_map : LinkMap) (ring : Bool) (x : ℕ) (xs : List ℕ) → IsChain link_map (chain_of ring (x ∷ xs)) → step_forward x (next_of link_map x) ≡ first_or xs None
 next_left link_map false x [] h = ap (λ (o : Option _). step_forward x (next_in o)) h.2.0
 next_left link_map false x (y ∷ xs) h = ap (λ (o : Option _). step_forward x (next_in o)) h.2.0 ∙ step_forward-other x y (λ e. h.1.0 (inl e))

@@ -13,7 +13,6 @@ use Rattle.chain_laws.proofs.TransferLemmas.Source.{items_of}
 use Rattle.chain_laws.proofs.ListLemmas.Ranges.{IsMember-range, range-IsMember, AreDistinct-range, range_last, in_runs-append, one_run}
 use Rattle.chain_laws.proofs.RenamingLemmas.ChainRuns.{items_in_runs}
 
--- A chain of two lists of chains is in one of them.
 chain-parts : (cs ds : List Chain) (c : Chain) → HasChain (cs ++ ds) c → HasChain cs c ⊎ HasChain ds c
 chain-parts [] ds c h = inr h
 chain-parts (b ∷ cs) ds c (inl e) = inl (inl e)
@@ -36,23 +35,19 @@ pub all_items-append : (cs ds : List Chain) → all_items (cs ++ ds) ≡ all_ite
 all_items-append [] ds = refl
 all_items-append (c ∷ cs) ds = ap (λ (xs : List ℕ). items c ++ xs) (all_items-append cs ds) ∙ sym (append_assoc (items c) (all_items cs) (all_items ds))
 
--- The links of the runs.
 pub items_arranged : (done : List Chain) (ring : Bool) (xs : List ℕ) → all_items (with_appended done ring xs) ≡ all_items done ++ xs
 items_arranged done ring [] = sym (append-nil (all_items done))
 items_arranged done ring (x ∷ xs) =
     all_items-append done (chain_of ring (x ∷ xs) ∷ [])
     ∙ ap (λ (ys : List ℕ). all_items done ++ ys) (append-nil (items (chain_of ring (x ∷ xs))) ∙ items_of ring (x ∷ xs))
 
--- The number of links of the runs.
 pub arranged-length : (done : List Chain) (ring : Bool) (xs : List ℕ) → length (all_items (with_appended done ring xs)) ≡ length (all_items done) + length xs
 arranged-length done ring xs = ap length (items_arranged done ring xs) ∙ length-append (all_items done) xs
 
--- A chain between others, grouped with either side.
 pub arranged_between : (done : List Chain) (ring : Bool) (xs : List ℕ) (rest : List Chain) → done ++ with_rest ring xs rest ≡ with_appended done ring xs ++ rest
 arranged_between done ring [] rest = refl
 arranged_between done ring (x ∷ xs) rest = sym (append_assoc done (chain_of ring (x ∷ xs) ∷ []) rest)
 
--- The runs of the chains before, and the run of the last.
 arranged_runs : (done : List Chain) (ring : Bool) (x : ℕ) (xs : List ℕ)
     → in_runs 1 (with_appended done ring (x ∷ xs)) ≡ in_runs 1 done ++ chain_of ring (range_with_len (1 + length (all_items done)) (length (x ∷ xs))) ∷ []
 arranged_runs done ring x xs =
@@ -66,7 +61,6 @@ filled_arranged done ring (y ∷ xs) x =
     arranged_runs done ring y (xs ++ x ∷ [])
     ∙ ap (λ (n : ℕ). in_runs 1 done ++ chain_of ring (range_with_len (1 + length (all_items done)) n) ∷ []) (length-append (y ∷ xs) (x ∷ []))
 
--- The link after the last of a run.
 last_next : (link_map : LinkMap) (ring : Bool) (k n : ℕ) → IsChain link_map (chain_of ring (range_with_len k (n + 1)))
     → HasLink link_map (k + n) × (next_of link_map (k + n) ≡ (if ring then Some k else None))
 last_next link_map false k n h =
@@ -80,7 +74,6 @@ last_next link_map true k n h =
     first : (k n : ℕ) → first_or (range_with_len k (n + 1)) None ≡ Some k
     first k n = ap (λ (m : ℕ). first_or (range_with_len k m) None) (let e : n + 1 ≡ suc n = omega arith in e)
 
--- The run of the last chain, longer by one.
 longer_run : (new : LinkMap) (ring : Bool) (k n a q : ℕ) → a ≡ k + n → q ≡ a + 1 → IsChain new (chain_of ring (range_with_len k n ++ a ∷ q ∷ [])) → IsChain new (chain_of ring (range_with_len k (suc n + 1)))
 longer_run new ring k n a q last after h =
     subst (λ (zs : List ℕ). IsChain new (chain_of ring zs)) (sym (ap (range_with_len k) (let e : suc n + 1 ≡ (n + 1) + 1 = omega arith in e) ∙ range_last k (n + 1) ∙ ap₂ (λ (zs : List ℕ) (z : ℕ). zs ++ z ∷ []) (range_last k n) (let e : k + (n + 1) ≡ q = omega arith in e)
@@ -92,7 +85,6 @@ record IsEnd (link_map : LinkMap) (ring : Bool) (k m q : ℕ) : Type 0 where
   longer : (new : LinkMap) → Inserts link_map new q (end_before ring m q) (end_after ring m q) → IsChain new (chain_of ring (range_with_len k (m + 1)))
   low : (c : Chain) → ((i : ℕ) → IsMember (items c) i → i < k) → (HasIndex c (end_before ring m q) → ⊥) × (HasIndex c (end_after ring m q) → ⊥)
 
--- The last chain begins with the new link.
 first_end : (link_map : LinkMap) (ring : Bool) (k q : ℕ) → q ≡ k → IsEnd link_map ring k 0 q
 first_end link_map false k q is = record {
   position = tt;
@@ -108,7 +100,6 @@ first_end link_map true k q is = record {
     above : (c : Chain) → ((i : ℕ) → IsMember (items c) i → i < k) → IsMember (items c) q → ⊥
     above c below h = let l = below q h in omega (arith, l)
 
--- The last chain goes on with the new link.
 next_end : (link_map : LinkMap) (ring : Bool) (k n q : ℕ) → q ≡ (k + n) + 1 → IsChain link_map (chain_of ring (range_with_len k (suc n))) → IsEnd link_map ring k (suc n) q
 next_end link_map ring k n q is h = by ring (last_next link_map ring k n own_run) own_run
   where
@@ -145,7 +136,6 @@ next_end link_map ring k n q is h = by ring (last_next link_map ring k n own_run
         }
 
 module _ (link_map : LinkMap) (done : List Chain) (ring : Bool) (xs : List ℕ) (x q : ℕ) (are : AreChains link_map (in_runs 1 (with_appended done ring xs))) (is : q ≡ length (all_items done) + length xs + 1) where
-  -- The indexes before q are those of the links.
   arranged : all_items (in_runs 1 (with_appended done ring xs)) ≡ range_with_len 1 (length (all_items done) + length xs)
   arranged = items_in_runs 1 (with_appended done ring xs) ∙ ap (range_with_len 1) (arranged-length done ring xs)
 

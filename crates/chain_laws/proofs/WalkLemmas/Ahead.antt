@@ -13,7 +13,6 @@ IsAhead link_map start (Some j) back (i ∷ rest) = (j ≡ i) × IsAhead link_ma
 IsAhead link_map start None (Some k) (i ∷ rest) = (k ≡ i) × IsAhead link_map start None (prev_of link_map k) rest
 IsAhead link_map start None None (i ∷ rest) = ⊥
 
--- It passes what its steps pass, if they are enough.
 pub is_ahead : (left : ℕ) (link_map : LinkMap) (start : ℕ) (forward back : Option ℕ) (xs : List ℕ) → walk_ahead left link_map start forward back ≡ xs → length xs < left → IsAhead link_map start forward back xs
 is_ahead zero link_map start forward back xs is enough = absurd (omega arith)
 is_ahead (suc left) link_map start None None [] is enough = tt

@@ -15,22 +15,18 @@ use Rattle.chain_laws.proofs.InterlinkLemmas.Inverses.{if_same}
 use Rattle.chain_laws.proofs.WalkLemmas.Walker.{step_forward-other, first_or-reversed, no_other_walk}
 use Rattle.chain_laws.proofs.WalkLemmas.Members.{IsMember-reversed, IsMember-back, AreDistinct-reversed}
 
--- The walker steps on to itself nowhere.
 step_to-start : (start end : ℕ) → step_to start end (Some start) ≡ None
 step_to-start start end = if_same start start None (Some start) refl
 
--- A step to the last of some items, none of which is the start.
 step_to-last : (start end : ℕ) (xs : List ℕ) (before : Option ℕ) → (IsMember xs start → ⊥) → step_to start end (last_or xs before) ≡ last_or xs (step_to start end before)
 step_to-last start end [] before none = refl
 step_to-last start end (x ∷ xs) before none =
     step_to-last start end xs (Some x) (λ h. none (inr h)) ∙ ap (λ (o : Option ℕ). last_or xs o) (step_forward-other start x (λ e. none (inl e)))
 
--- From each item the walker steps to the next one, and from the last nowhere.
 abbrev StepsBackTo : LinkMap → ℕ → ℕ → List ℕ → Type 0
 StepsBackTo link_map start end [] = Unit {0}
 StepsBackTo link_map start end (z ∷ zs) = (step_to start end (prev_of link_map z) ≡ first_or zs None) × StepsBackTo link_map start end zs
 
--- A walker passes such a list.
 back_passes : (left : ℕ) (link_map : LinkMap) (start end : ℕ) (zs : List ℕ) → StepsBackTo link_map start end zs → length zs ≤ left → back_ahead left link_map start end (first_or zs None) ≡ zs
 back_passes zero link_map start end [] steps enough = refl
 back_passes (suc left) link_map start end [] steps enough = refl
@@ -38,7 +34,6 @@ back_passes zero link_map start end (z ∷ zs) steps enough = absurd (omega arit
 back_passes (suc left) link_map start end (z ∷ zs) steps enough =
     ap (λ (w : List ℕ). z ∷ w) (ap (λ (o : Option ℕ). back_ahead left link_map start end o) steps.0 ∙ back_passes left link_map start end zs steps.1 (omega arith))
 
--- A linked list, reversed, before such a list.
 StepsBackTo-reversed : (link_map : LinkMap) (start end : ℕ) (xs zs : List ℕ) (before after : Option ℕ) → step_to start end before ≡ first_or zs None → AreLinked link_map before xs after → (IsMember xs start → ⊥)
     → StepsBackTo link_map start end zs → StepsBackTo link_map start end (reverse_aux xs zs)
 StepsBackTo-reversed link_map start end [] zs before after on stored none steps = steps
@@ -46,7 +41,6 @@ StepsBackTo-reversed link_map start end (x ∷ xs) zs before after on stored non
     StepsBackTo-reversed link_map start end xs (x ∷ zs) (Some x) after (step_forward-other start x (λ e. none (inl e))) stored.1 (λ h. none (inr h))
     (ap (λ o. step_to start end (prev_in o)) stored.0 ∙ on, steps)
 
--- A linked list from which the walker comes to its end.
 end_found : (steps : ℕ) (link_map : LinkMap) (start : ℕ) (before : Option ℕ) (y : ℕ) (ys : List ℕ) → AreLinked link_map before (y ∷ ys) None → (IsMember ys start → ⊥) → length ys ≤ steps
     → Some (end_from steps link_map start y) ≡ last_or ys (Some y)
 end_found zero link_map start before y [] stored none enough = refl
@@ -59,16 +53,13 @@ end_found (suc steps) link_map start before y (k ∷ ks) stored none enough =
     ∙ (ap to (step_forward-other start k (λ e. none (inl e)))
     ∙ end_found steps link_map start (Some y) k ks stored.1 (λ h. none (inr h)) (omega arith))
 
--- The links after the walker's first, back from the end, or from the link before it in a ring.
 after_steps : (link_map : LinkMap) (i end : ℕ) (after : List ℕ) (on : Option ℕ) → AreLinked link_map (Some i) after on → (IsMember after i → ⊥) → StepsBackTo link_map i end (reverse after)
 after_steps link_map i end after on stored none = StepsBackTo-reversed link_map i end after [] (Some i) on (step_to-start i end) stored none tt
 
--- A step to the last of these links, unless there are none.
 step_to-after : (i end : ℕ) (after : List ℕ) → (IsMember after i → ⊥) → step_to i end (last_or after (Some i)) ≡ first_or (reverse after) None
 step_to-after i end after none =
     step_to-last i end after (Some i) none ∙ (ap (λ (o : Option ℕ). last_or after o) (step_to-start i end) ∙ sym (first_or-reversed after []))
 
--- With enough steps a walker passes any walk back from its first link.
 pub back_passed : (left steps : ℕ) (link_map : LinkMap) (i : ℕ) (walk : List ℕ) → IsWalkBack link_map i walk → length walk ≤ left → length walk ≤ steps → back_ahead left link_map i (end_of steps link_map i) (Some i) ≡ walk
 back_passed left steps link_map i _ (of_linear before after chain) enough steps_enough =
     back_passes left link_map i end (i ∷ reverse before ++ reverse after) (first, rest) enough
@@ -112,22 +103,18 @@ back_passed left steps link_map i _ (of_cyclic after chain) enough steps_enough 
     back_passes left link_map i end (i ∷ reverse after)
     (ap (λ o. step_to i end (prev_in o)) chain.2.0 ∙ step_to-after i end after chain.1.0, after_steps link_map i end after (Some i) chain.2.1 chain.1.0) enough
 
--- There is one walk back from a link.
 pub no_other_walk_back : HasNoOtherWalkBack
 no_other_walk_back link_map i walk other is_walk is_other =
     let left = length walk + length other in
     sym (back_passed left left link_map i walk is_walk (omega arith) (omega arith)) ∙ back_passed left left link_map i other is_other (omega arith) (omega arith)
 
--- A walk back begins at its link.
 pub back_starts : (link_map : LinkMap) (i : ℕ) (walk : List ℕ) → IsWalkBack link_map i walk → IsMember walk i
 back_starts link_map i _ (of_linear before after chain) = inl refl
 back_starts link_map i _ (of_cyclic after chain) = inl refl
 
--- A reversed list has the members of the list.
 IsMember-forth : (xs : List ℕ) (y : ℕ) → IsMember xs y → IsMember (reverse xs) y
 IsMember-forth xs y h = (IsMember-reversed xs [] y).1 (inl h)
 
--- A walk back has each link at most once.
 pub back_once : (link_map : LinkMap) (i : ℕ) (walk : List ℕ) → IsWalkBack link_map i walk → AreDistinct walk
 back_once link_map i _ (of_linear before after chain) = (not_again, both)
   where
@@ -147,7 +134,6 @@ back_once link_map i _ (of_linear before after chain) = (not_again, both)
         (λ y h k. apart y (IsMember-back before y h) (inr (IsMember-back after y k)))
 back_once link_map i _ (of_cyclic after chain) = (λ h. chain.1.0 (IsMember-back after i h), AreDistinct-reversed after [] chain.1.1 tt (λ y h n. n))
 
--- A chain with the members of a walk back.
 pub back_chain : (link_map : LinkMap) (i : ℕ) (walk : List ℕ) → IsWalkBack link_map i walk → (c : Chain) × IsChain link_map c × ((j : ℕ) → IsMember walk j ↔ IsMember (items c) j)
 back_chain link_map i _ (of_linear before after chain) = (linear (before ++ i ∷ after), chain, λ j. (there j, back j))
   where
@@ -165,7 +151,6 @@ back_chain link_map i _ (of_linear before after chain) = (linear (before ++ i �
 back_chain link_map i _ (of_cyclic after chain) =
     (cyclic (i ∷ after), chain, λ j. (λ h. ⊎_elim (λ e. inl e) (λ k. inr (IsMember-back after j k)) h, λ h. ⊎_elim (λ e. inl e) (λ k. inr (IsMember-forth after j k)) h))
 
--- A walk back has the links of its chain and no others.
 pub back_has : BackPassesTheChain
 back_has link_map i walk c is_walk chain has j =
     let own = back_chain link_map i walk is_walk in
@@ -174,18 +159,15 @@ back_has link_map i walk c is_walk chain has j =
       λ h. (own.2 j).1 (chains_share link_map c own.0 i j chain own.1 has own_has h),
     )
 
--- The links of a walk back are valid.
 pub back_valid : (link_map : LinkMap) (i : ℕ) (walk : List ℕ) → IsWalkBack link_map i walk → (j : ℕ) → IsMember walk j → HasLink link_map j
 back_valid link_map i walk is_walk j h =
     let own = back_chain link_map i walk is_walk in
     chain_valid link_map own.0 j own.1 ((own.2 j).0 h)
 
--- A walk back is no longer than the number of slots.
 pub back_bound : (link_map : LinkMap) (slots i : ℕ) (walk : List ℕ) → HasLinksWithin link_map slots → IsWalkBack link_map i walk → length walk ≤ slots
 back_bound link_map slots i walk within is_walk =
     length_bound walk slots (back_once link_map i walk is_walk) (λ j h. within.within j (back_valid link_map i walk is_walk j h))
 
--- There is a walk back from each link of a chain.
 back_of_chain : (link_map : LinkMap) (i : ℕ) (c : Chain) → IsChain link_map c → IsMember (items c) i → (walk : List ℕ) × IsWalkBack link_map i walk
 back_of_chain link_map i (linear xs) chain has =
     let w = IsMember-written xs i has in
@@ -194,21 +176,18 @@ back_of_chain link_map i (cyclic xs) chain has =
     let t = rotated_to link_map xs i chain has in
     (i ∷ reverse t.0, of_cyclic t.0 t.1)
 
--- There is a walk back from each valid index.
 pub has_walk_back : (link_map : LinkMap) (slots i : ℕ) → IsWellLinked link_map → HasLinksWithin link_map slots → HasLink link_map i → (walk : List ℕ) × IsWalkBack link_map i walk
 has_walk_back link_map slots i agrees within valid = by (has_chain link_map slots agrees within i valid)
   where
     by : ChainOf link_map i → (walk : List ℕ) × IsWalkBack link_map i walk
     by (stored_in c chain has) = back_of_chain link_map i c chain has
 
--- A walker passes the walk back.
 pub walks_back_ahead : WalksBackAhead
 walks_back_ahead link_map slots i agrees within valid =
     let walk = has_walk_back link_map slots i agrees within valid in
     let short = back_bound link_map slots i walk.0 within walk.1 in
     subst (IsWalkBack link_map i) (sym (back_passed slots slots link_map i walk.0 walk.1 short short)) walk.1
 
--- Around a ring, the walk back is the walk in reverse.
 pub cyclic_reversed : CyclicWalkBackIsReversed
 cyclic_reversed link_map i xs rest chain has walk =
     let t = rotated_to link_map xs i chain has in

@@ -16,25 +16,20 @@ use Rattle.chain_laws.proofs.RemovalLemmas.Chains.{removed_from_linear, removed_
 use Rattle.chain_laws.proofs.WalkLemmas.Walker.{step_forward-other, no_other_walk}
 use Rattle.chain_laws.proofs.WalkLemmas.Members.{walk_chain, walk_once, walk_starts, walk_valid, walks_ahead}
 
--- The items after the first.
 abbrev rest_of : List ℕ → List ℕ
 rest_of [] = []
 rest_of (x ∷ xs) = xs
 
--- The last item is the first of the reversed list.
 last_reversed : (xs : List ℕ) (k : ℕ) (zs : List ℕ) → reverse_aux (xs ++ k ∷ []) zs ≡ k ∷ reverse_aux xs zs
 last_reversed [] k zs = refl
 last_reversed (x ∷ xs) k zs = last_reversed xs k (x ∷ zs)
 
--- Where a walk goes on, by the neighbors of its link.
 rest_by : (link_map : LinkMap) (i : ℕ) (before after : Option ℕ) → link_map i ≡ Some (link before after) → rest_start_of link_map i ≡ option_or (step_forward i after) (step_forward i before)
 rest_by link_map i before after e = ap (λ (o : Option Interlinks). option_or (step_forward i (next_in o)) (step_forward i (prev_in o))) e
 
--- A walk goes forwards to another link.
 rest_forward : (link_map : LinkMap) (i k : ℕ) (before : Option ℕ) → link_map i ≡ Some (link before (Some k)) → k ≢ i → rest_start_of link_map i ≡ Some k
 rest_forward link_map i k before e ne = rest_by link_map i before (Some k) e ∙ ap (λ (o : Option ℕ). option_or o (step_forward i before)) (step_forward-other i k ne)
 
--- A walk goes back from the end.
 rest_back : (link_map : LinkMap) (i k : ℕ) → link_map i ≡ Some (link (Some k) None) → k ≢ i → rest_start_of link_map i ≡ Some k
 rest_back link_map i k e ne = rest_by link_map i (Some k) None e ∙ step_forward-other i k ne
 
@@ -43,14 +38,12 @@ record LeavesWalk (link_map : LinkMap) (i : ℕ) (rest : List ℕ) : Type 0 wher
   first : first_or rest None ≡ rest_start_of link_map i
   walk : (k : ℕ) → first_or rest None ≡ Some k → IsWalk (with_removal link_map i) k rest
 
--- The first link of the rest is known.
 leaves_from : (link_map : LinkMap) (i k : ℕ) (rest : List ℕ) → rest_start_of link_map i ≡ Some k → first_or rest None ≡ Some k → IsWalk (with_removal link_map i) k rest → LeavesWalk link_map i rest
 leaves_from link_map i k rest empties first walk = record {
   first = first ∙ sym empties;
   walk = λ j e. subst (λ (n : ℕ). IsWalk (with_removal link_map i) n rest) (one_some (sym first ∙ e)) walk;
 }
 
--- From the end of a linear chain the walk goes back.
 leaves_back : (link_map : LinkMap) (i k : ℕ) (before : List ℕ) → IsChain link_map (linear ((before ++ k ∷ []) ++ i ∷ [])) → LeavesWalk link_map i (reverse (before ++ k ∷ []))
 leaves_back link_map i k before chain =
     let left = before ++ k ∷ [] in
@@ -63,7 +56,6 @@ leaves_back link_map i k before chain =
     (ap (λ (zs : List ℕ). first_or zs None) (last_reversed before k []))
     (subst (λ (zs : List ℕ). IsWalk (with_removal link_map i) k zs) (sym (last_reversed before k [])) (of_linear before [] shorter))
 
--- Without its first link, a walk goes on.
 leaves : (link_map : LinkMap) (i : ℕ) (walk : List ℕ) → IsWalk link_map i walk → LeavesWalk link_map i (rest_of walk)
 leaves link_map i _ (of_linear [] [] chain) = record { first = sym (rest_by link_map i None None chain.2.0); walk = λ k e. absurd (cc) }
 leaves link_map i _ (of_linear (x ∷ xs) [] chain) =
@@ -87,7 +79,6 @@ removal_leaves_the_walk link_map i rest walk =
     let l = leaves link_map i (i ∷ rest) walk in
     (l.first, l.walk)
 
--- The removal of the first link leaves links outside the walk unchanged.
 reports_rest : (link_map : LinkMap) (i : ℕ) (walk : List ℕ) → IsWalk link_map i walk → (j : ℕ) → (IsMember walk j → ⊥) → with_removal link_map i j ≡ link_map j
 reports_rest link_map i walk is_walk j none =
     let own = walk_chain link_map i walk is_walk in
@@ -103,7 +94,6 @@ record EmptiesWalk (old new : LinkMap) (walk : List ℕ) : Type 0 where
   gone : (j : ℕ) → IsMember walk j → new j ≡ None
   rest : (j : ℕ) → (IsMember walk j → ⊥) → new j ≡ old j
 
--- The links of a walk after its first are removed.
 empties_after : (link_map : LinkMap) (i k : ℕ) (rest : List ℕ) → IsWalk link_map i (i ∷ k ∷ rest) → EmptiesWalk (with_removal link_map i) (with_removals (with_removal link_map i) (k ∷ rest)) (k ∷ rest)
     → EmptiesWalk link_map (with_removals link_map (i ∷ k ∷ rest)) (i ∷ k ∷ rest)
 empties_after link_map i k rest walk after = record {
@@ -118,12 +108,10 @@ empties link_map i [] walk = record {
 }
 empties link_map i (k ∷ rest) walk = empties_after link_map i k rest walk (empties (with_removal link_map i) k rest ((removal_leaves_the_walk link_map i (k ∷ rest) walk).1 k refl))
 
--- Equal interlinks at its items keep a chain.
 same_chain : (old new : LinkMap) (c : Chain) → ((j : ℕ) → IsMember (items c) j → old j ≡ new j) → IsChain old c → IsChain new c
 same_chain old new (linear xs) same c = (c.0, c.1, AreLinked-frame old new None xs None same c.2)
 same_chain old new (cyclic xs) same c = (c.0, c.1, AreLinked-frame old new (last_or xs None) xs (first_or xs None) same c.2)
 
--- A walk begins with its link.
 walk_written : (link_map : LinkMap) (i : ℕ) (walk : List ℕ) → IsWalk link_map i walk → walk ≡ i ∷ rest_of walk
 walk_written link_map i _ (of_linear before after chain) = refl
 walk_written link_map i _ (of_cyclic after chain) = refl
@@ -145,17 +133,14 @@ walk_is_taken link_map i walk is_walk =
     taken link_map (with_removals link_map walk) walk
     (subst (λ (w : List ℕ). EmptiesWalk link_map (with_removals link_map w) w) (sym e) (empties link_map i (rest_of walk) (subst (IsWalk link_map i) e is_walk)))
 
--- The walk of a valid link.
 pub walk_from-walk : (slots : ℕ) (link_map : LinkMap) (i : ℕ) → IsWellLinked link_map → HasLinksWithin link_map slots → HasLink link_map i → IsWalk link_map i (walk_from slots link_map (Some i))
 walk_from-walk slots link_map i agrees within valid =
     subst (IsWalk link_map i) (sym (ap (λ (b : Bool). if b then walk_ahead slots link_map i (Some i) (prev_of link_map i) else []) (ap (is_some {T = Interlinks}) valid.links)))
     (walks_ahead link_map slots i agrees within valid)
 
--- The walk of a free index is empty.
 pub walk_from-none : (slots : ℕ) (link_map : LinkMap) (i : ℕ) → link_map i ≡ None → walk_from slots link_map (Some i) ≡ []
 walk_from-none slots link_map i none = ap (λ (b : Bool). if b then walk_ahead slots link_map i (Some i) (prev_of link_map i) else []) (ap (is_some {T = Interlinks}) none)
 
--- A walk is the walk from its first link.
 walk_from-rest : (slots : ℕ) (link_map : LinkMap) (o : Option ℕ) (rest : List ℕ) → IsWellLinked link_map → HasLinksWithin link_map slots → first_or rest None ≡ o → ((k : ℕ) → first_or rest None ≡ Some k → IsWalk link_map k rest)
     → rest ≡ walk_from slots link_map o
 walk_from-rest slots link_map o [] agrees within first walk = ap (walk_from slots link_map) first
@@ -164,7 +149,6 @@ walk_from-rest slots link_map o (k ∷ rest) agrees within first walk =
     no_other_walk link_map k (k ∷ rest) (walk_from slots link_map (Some k)) own (walk_from-walk slots link_map k agrees within (walk_valid link_map k (k ∷ rest) own k (inl refl)))
     ∙ ap (walk_from slots link_map) first
 
--- A walk goes on when its first link is removed.
 pub walk_from-next : (slots : ℕ) (link_map : LinkMap) (i : ℕ) → IsWellLinked link_map → HasLinksWithin link_map slots → HasLink link_map i
     → walk_from slots link_map (Some i) ≡ i ∷ walk_from slots (with_removal link_map i) (rest_start_of link_map i)
 walk_from-next slots link_map i agrees within valid =

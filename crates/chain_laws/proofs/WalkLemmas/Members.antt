@@ -10,7 +10,6 @@ use Rattle.chain_laws.proofs.ChainLemmas.Rotations.{rotated_to}
 use Rattle.chain_laws.proofs.ChainLemmas.Existence.{ChainOf, stored_in, has_chain}
 use Rattle.chain_laws.proofs.WalkLemmas.Walker.{walk_passed}
 
--- A reversed list has the same members.
 pub IsMember-reversed : (xs zs : List ℕ) (y : ℕ) → IsMember (reverse_aux xs zs) y ↔ (IsMember xs y ⊎ IsMember zs y)
 IsMember-reversed [] zs y = (λ h. inr h, λ h. ⊎_elim (λ n. absurd n) (λ k. k) h)
 IsMember-reversed (x ∷ xs) zs y =
@@ -27,7 +26,6 @@ IsMember-reversed (x ∷ xs) zs y =
     back (inl (inr h)) = inl h
     back (inr h) = inr (inr h)
 
--- A reversed list is distinct if the list is.
 pub AreDistinct-reversed : (xs zs : List ℕ) → AreDistinct xs → AreDistinct zs → ((y : ℕ) → IsMember xs y → IsMember zs y → ⊥) → AreDistinct (reverse_aux xs zs)
 AreDistinct-reversed [] zs once others apart = others
 AreDistinct-reversed (x ∷ xs) zs once others apart =
@@ -37,16 +35,13 @@ AreDistinct-reversed (x ∷ xs) zs once others apart =
     still_apart y h (inl e) = once.0 (subst (IsMember xs) (sym e) h)
     still_apart y h (inr k) = apart y (inr h) k
 
--- A member of a reversed list is a member of the list.
 pub IsMember-back : (xs : List ℕ) (y : ℕ) → IsMember (reverse xs) y → IsMember xs y
 IsMember-back xs y h = ⊎_elim (λ k. k) (λ n. absurd n) ((IsMember-reversed xs [] y).0 h)
 
--- A walk begins at its link.
 pub walk_starts : (link_map : LinkMap) (i : ℕ) (walk : List ℕ) → IsWalk link_map i walk → IsMember walk i
 walk_starts link_map i _ (of_linear before after chain) = inl refl
 walk_starts link_map i _ (of_cyclic after chain) = inl refl
 
--- A walk has each link at most once.
 pub walk_once : (link_map : LinkMap) (i : ℕ) (walk : List ℕ) → IsWalk link_map i walk → AreDistinct walk
 walk_once link_map i _ (of_linear before after chain) =
     AreDistinct-append (i ∷ after) (reverse before) (AreDistinct-right before (i ∷ after) chain.1)
@@ -54,7 +49,6 @@ walk_once link_map i _ (of_linear before after chain) =
     (λ y h k. AreDistinct-apart before (i ∷ after) y chain.1 (IsMember-back before y k) h)
 walk_once link_map i _ (of_cyclic after chain) = chain.1
 
--- A chain with the members of a walk.
 pub walk_chain : (link_map : LinkMap) (i : ℕ) (walk : List ℕ) → IsWalk link_map i walk → (c : Chain) × IsChain link_map c × ((j : ℕ) → IsMember walk j ↔ IsMember (items c) j)
 walk_chain link_map i _ (of_linear before after chain) = (linear (before ++ i ∷ after), chain, λ j. (there j, back j))
   where
@@ -65,7 +59,6 @@ walk_chain link_map i _ (of_linear before after chain) = (linear (before ++ i �
     back j h = ⊎_elim (λ k. IsMember-right (i ∷ after) (reverse before) j ((IsMember-reversed before [] j).1 (inl k))) (λ k. IsMember-left (i ∷ after) (reverse before) j k) (IsMember-parts before (i ∷ after) j h)
 walk_chain link_map i _ (of_cyclic after chain) = (cyclic (i ∷ after), chain, λ j. (λ h. h, λ h. h))
 
--- A walk has the links of its chain and no others.
 pub walk_has : PassesTheChain
 walk_has link_map i walk c is_walk chain has j =
     let own = walk_chain link_map i walk is_walk in
@@ -74,18 +67,15 @@ walk_has link_map i walk c is_walk chain has j =
       λ h. (own.2 j).1 (chains_share link_map c own.0 i j chain own.1 has own_has h),
     )
 
--- The links of a walk are valid.
 pub walk_valid : (link_map : LinkMap) (i : ℕ) (walk : List ℕ) → IsWalk link_map i walk → (j : ℕ) → IsMember walk j → HasLink link_map j
 walk_valid link_map i walk is_walk j h =
     let own = walk_chain link_map i walk is_walk in
     chain_valid link_map own.0 j own.1 ((own.2 j).0 h)
 
--- A walk is no longer than the number of slots.
 pub walk_bound : (link_map : LinkMap) (slots i : ℕ) (walk : List ℕ) → HasLinksWithin link_map slots → IsWalk link_map i walk → length walk ≤ slots
 walk_bound link_map slots i walk within is_walk =
     length_bound walk slots (walk_once link_map i walk is_walk) (λ j h. within.within j (walk_valid link_map i walk is_walk j h))
 
--- There is a walk from each link of a chain.
 pub walk_of_chain : (link_map : LinkMap) (i : ℕ) (c : Chain) → IsChain link_map c → IsMember (items c) i → (walk : List ℕ) × IsWalk link_map i walk
 walk_of_chain link_map i (linear xs) chain has =
     let w = IsMember-written xs i has in
@@ -94,14 +84,12 @@ walk_of_chain link_map i (cyclic xs) chain has =
     let t = rotated_to link_map xs i chain has in
     (i ∷ t.0, of_cyclic t.0 t.1)
 
--- There is a walk from each valid index.
 pub has_walk : (link_map : LinkMap) (slots i : ℕ) → IsWellLinked link_map → HasLinksWithin link_map slots → HasLink link_map i → (walk : List ℕ) × IsWalk link_map i walk
 has_walk link_map slots i agrees within valid = by (has_chain link_map slots agrees within i valid)
   where
     by : ChainOf link_map i → (walk : List ℕ) × IsWalk link_map i walk
     by (stored_in c chain has) = walk_of_chain link_map i c chain has
 
--- A walker passes the walk.
 pub walks_ahead : WalksAhead
 walks_ahead link_map slots i agrees within valid =
     let walk = has_walk link_map slots i agrees within valid in

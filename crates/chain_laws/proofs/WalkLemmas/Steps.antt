@@ -12,11 +12,9 @@ steps_from link_map (suc left) start None None = refl
 pub steps_pass : StepsPass
 steps_pass link_map w = steps_from link_map w.left w.start w.forward w.back
 
--- The links ahead before a step, and after it.
 pub step_ahead : (link_map : LinkMap) (old new : Walker) (i : ℕ) → step_of link_map old ≡ Some (i, new) → passes_ahead link_map old ≡ i ∷ passes_ahead link_map new
 step_ahead link_map old new i is = steps_pass link_map old ∙ ap (walk_of_step link_map) is
 
--- The link of the next step is the first link ahead.
 pub first_ahead : (link_map : LinkMap) (w : Walker) (Holds : ℕ → Type 0) → IfSome (step_of link_map w) (λ step. Holds step.0) → (i : ℕ) (rest : List ℕ) → passes_ahead link_map w ≡ i ∷ rest → Holds i
 first_ahead link_map w Holds holds i rest is = by (step_of link_map w) holds (sym (steps_pass link_map w) ∙ is)
   where
@@ -24,7 +22,6 @@ first_ahead link_map w Holds holds i rest is = by (step_of link_map w) holds (sy
     by None holds same = absurd (let h = same in cc)
     by (Some step) holds same = let first : step.0 ≡ i = let h = ap (λ (l : List ℕ). first_or l None) same in cc in subst Holds first holds
 
--- One step fewer is left after a step.
 abbrev steps_left : Option (ℕ × Walker) → ℕ
 steps_left None = zero
 steps_left (Some step) = suc step.1.left

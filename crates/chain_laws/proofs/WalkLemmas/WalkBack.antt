@@ -18,11 +18,9 @@ pub ending : (xs : List ℕ) → IsEmptyOrEnds xs
 ending [] = is_empty
 ending (x ∷ xs) = let l = last_apart x xs in subst IsEmptyOrEnds (sym l.2) (ends_in l.0 l.1)
 
--- In a linear chain, the previous link is the last one written before.
 prev_linear : (link_map : LinkMap) (before : List ℕ) (here : ℕ) (after : List ℕ) → IsChain link_map (linear (before ++ here ∷ after)) → prev_of link_map here ≡ last_or before None
 prev_linear link_map before here after h = ap prev_in (AreLinked-at link_map None before after None here h.2)
 
--- In a cyclic chain, the previous link is the last one still ahead of the walker.
 prev_cyclic : (link_map : LinkMap) (i : ℕ) (before after : List ℕ) (here : ℕ) → IsChain link_map (cyclic (i ∷ before ++ after)) → first_or after (Some i) ≡ Some here → prev_of link_map here ≡ last_or before (Some i)
 prev_cyclic link_map i before [] here h e =
     let same : i ≡ here = cc in
@@ -60,7 +58,6 @@ module _ (link_map : LinkMap) (i steps here : ℕ) (back : IsBack link_map i ste
   cyclic_at : (xs : List ℕ) → IsChain link_map (cyclic (i ∷ xs)) → InCyclic i steps here xs
   cyclic_at xs h = let b = back.in_cyclic xs h in record { before = b.0; after = b.1; parts = b.2; first = b.3; few = b.4 }
 
-  -- The link before the walker, in either kind of chain.
   before_linear : (xs : List ℕ) (h : IsChain link_map (linear xs)) (m : IsMember xs i) → prev_of link_map here ≡ last_or (linear_at xs h m).before None
   before_linear xs h m =
       let at = linear_at xs h m in
@@ -71,7 +68,6 @@ module _ (link_map : LinkMap) (i steps here : ℕ) (back : IsBack link_map i ste
       let at = cyclic_at xs h in
       prev_cyclic link_map i at.before at.after here (subst (λ (ys : List ℕ). IsChain link_map (cyclic (i ∷ ys))) at.parts h) at.first
 
--- A walker without a previous link is at the start of a linear chain, not in a ring.
 nothing_before : (before : List ℕ) → IsEmptyOrEnds before → last_or before None ≡ None → before ≡ []
 nothing_before _ is_empty e = refl
 nothing_before _ (ends_in ys y) e = let l : last_or (ys ++ y ∷ []) None ≡ Some y = last_or-append ys (y ∷ []) None in absurd (cc)
@@ -97,7 +93,6 @@ back_ends link_map i steps here back none = record { in_linear = from_start; in_
 pub on_begins : WalkOnBegins
 on_begins link_map i before after h = inl refl
 
--- The link after one of a list is in the list, too.
 next_onward : (link_map : LinkMap) (i on k : ℕ) (before after rest ahead : List ℕ) → IsChain link_map (linear (before ++ i ∷ after)) → i ∷ after ≡ rest ++ on ∷ ahead → next_of link_map on ≡ Some k → IsMember (i ∷ after) k
 next_onward link_map i on k before after rest ahead h parts e =
     let all : before ++ i ∷ after ≡ (before ++ rest) ++ on ∷ ahead = ap (λ (ys : List ℕ). before ++ ys) parts ∙ sym (append_assoc before rest (on ∷ ahead)) in
@@ -113,7 +108,6 @@ on_continues link_map i on k onward e before after h =
     let w = IsMember-written (i ∷ after) on (onward before after h) in
     next_onward link_map i on k before after w.0 w.1 h w.2 e
 
--- The previous link of a walk back is not onward in a linear chain.
 is_before : (link_map : LinkMap) (i here k : ℕ) (before after : List ℕ) → IsEmptyOrEnds before → IsChain link_map (linear (before ++ here ∷ after)) → IsMember (here ∷ after) i → last_or before None ≡ Some k
     → IsOnward link_map i k → ⊥
 is_before link_map i here k _ after is_empty h has e onward = cc
@@ -140,7 +134,6 @@ walks_meet link_map i steps here k back e onward = record { in_linear = λ xs h 
 pub back_wraps_around : WalkBackIsCyclic
 back_wraps_around link_map i steps here back e = walks_meet link_map i steps here i back e (on_begins link_map i)
 
--- One step back in a linear chain.
 step_linear : (i steps here k : ℕ) (before after : List ℕ) → IsEmptyOrEnds before → last_or before None ≡ Some k → steps ≤ length after → IsMember (here ∷ after) i → (xs : List ℕ) → xs ≡ before ++ here ∷ after
     → (b : List ℕ) × (a : List ℕ) × (xs ≡ b ++ k ∷ a) × IsMember (k ∷ a) i × (steps + 1 ≤ length a)
 step_linear i steps here k _ after is_empty l few has xs parts = absurd (cc)
@@ -149,7 +142,6 @@ step_linear i steps here k _ after (ends_in ys y) l few has xs parts =
     let same : y ≡ k = cc in
     (ys, here ∷ after, parts ∙ (append_assoc ys (y ∷ []) (here ∷ after) ∙ ap (λ (z : ℕ). ys ++ z ∷ here ∷ after) same), inr has, omega arith)
 
--- One step back in a cyclic chain.
 step_cyclic : (i steps k : ℕ) (before after : List ℕ) → IsEmptyOrEnds before → k ≢ i → last_or before (Some i) ≡ Some k → steps ≤ length after → (xs : List ℕ) → xs ≡ before ++ after
     → (b : List ℕ) × (a : List ℕ) × (xs ≡ b ++ a) × (first_or a (Some i) ≡ Some k) × (steps + 1 ≤ length a)
 step_cyclic i steps k _ after is_empty ne l few xs parts = let same : k ≡ i = cc in absurd (ne same)
@@ -171,7 +163,6 @@ back_continues link_map i steps here k back e ne = record { in_linear = in_linea
         let at = cyclic_at link_map i steps here back xs h in
         step_cyclic i steps k at.before at.after (ending at.before) ne (sym (before_cyclic link_map i steps here back xs h) ∙ e) at.few xs at.parts
 
--- A distinct list is no longer than a list that has all its members.
 pub length_among : (xs ys : List ℕ) → AreDistinct xs → ((i : ℕ) → IsMember xs i → IsMember ys i) → length xs ≤ length ys
 length_among [] ys once among = omega arith
 length_among (x ∷ xs) ys once among = shorter (IsMember-written ys x (among x (inl refl))) (length_among xs)

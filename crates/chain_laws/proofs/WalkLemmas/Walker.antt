@@ -13,17 +13,14 @@ abbrev pub StepsBack : LinkMap → List ℕ → Type 0
 StepsBack link_map [] = Unit {0}
 StepsBack link_map (z ∷ zs) = (prev_of link_map z ≡ first_or zs None) × StepsBack link_map zs
 
--- A linked list, reversed, goes back.
 pub StepsBack-reversed : (link_map : LinkMap) (xs zs : List ℕ) (after : Option ℕ) → AreLinked link_map (first_or zs None) xs after → StepsBack link_map zs → StepsBack link_map (reverse_aux xs zs)
 StepsBack-reversed link_map [] zs after stored back = back
 StepsBack-reversed link_map (x ∷ xs) zs after stored back = StepsBack-reversed link_map xs (x ∷ zs) after stored.1 (ap prev_in stored.0, back)
 
--- The last item is the first of the reversed list.
 pub first_or-reversed : (xs zs : List ℕ) → first_or (reverse_aux xs zs) None ≡ last_or xs (first_or zs None)
 first_or-reversed [] zs = refl
 first_or-reversed (x ∷ xs) zs = first_or-reversed xs (x ∷ zs)
 
--- From the end of a chain a walker goes back.
 passes_back : (left : ℕ) (link_map : LinkMap) (start : ℕ) (zs : List ℕ) → StepsBack link_map zs → length zs ≤ left → walk_ahead left link_map start None (first_or zs None) ≡ zs
 passes_back zero link_map start [] back enough = refl
 passes_back (suc left) link_map start [] back enough = refl
@@ -31,15 +28,12 @@ passes_back zero link_map start (z ∷ zs) back enough = absurd (omega arith)
 passes_back (suc left) link_map start (z ∷ zs) back enough =
     ap (λ (w : List ℕ). z ∷ w) (ap (λ (o : Option ℕ). walk_ahead left link_map start None o) back.0 ∙ passes_back left link_map start zs back.1 (omega arith))
 
--- A walker goes on to any link but its first.
 pub step_forward-other : (start k : ℕ) → k ≢ start → step_forward start (Some k) ≡ Some k
 step_forward-other start k ne = if_other k start None (Some k) ne
 
--- A walker may still go back from the end.
 step_back-other : (start k : ℕ) (back : Option ℕ) → k ≢ start → step_back start (Some k) back ≡ back
 step_back-other start k back ne = if_other k start None back ne
 
--- Through a linear chain to its end, and then back.
 passes_on : (left : ℕ) (link_map : LinkMap) (start : ℕ) (before : Option ℕ) (y : ℕ) (ys zs : List ℕ)
     → AreLinked link_map before (y ∷ ys) None → (IsMember ys start → ⊥) → StepsBack link_map zs → length (y ∷ ys ++ zs) ≤ left
     → walk_ahead left link_map start (Some y) (first_or zs None) ≡ y ∷ ys ++ zs
@@ -55,7 +49,6 @@ passes_on (suc left) link_map start before y (k ∷ ks) zs stored none back enou
     ∙ ap₂ (λ (o p : Option ℕ). walk_ahead left link_map start o p) (step_forward-other start k other) (step_back-other start k (first_or zs None) other)
     ∙ passes_on left link_map start (Some y) k ks zs stored.1 (λ h. none (inr h)) back (omega arith))
 
--- Once around a cyclic chain.
 passes_cyclic : (left : ℕ) (link_map : LinkMap) (start : ℕ) (before back : Option ℕ) (y : ℕ) (ys : List ℕ)
     → AreLinked link_map before (y ∷ ys) (Some start) → (IsMember ys start → ⊥) → length (y ∷ ys) ≤ left
     → walk_ahead left link_map start (Some y) back ≡ y ∷ ys
@@ -72,7 +65,6 @@ passes_cyclic (suc left) link_map start before back y (k ∷ ks) stored none eno
     ∙ ap₂ (λ (o p : Option ℕ). walk_ahead left link_map start o p) (step_forward-other start k other) (step_back-other start k back other)
     ∙ passes_cyclic left link_map start (Some y) back k ks stored.1 (λ h. none (inr h)) (omega arith))
 
--- With enough steps a walker passes any walk from its first link.
 pub walk_passed : (left : ℕ) (link_map : LinkMap) (i : ℕ) (walk : List ℕ) → IsWalk link_map i walk → length walk ≤ left → walk_ahead left link_map i (Some i) (prev_of link_map i) ≡ walk
 walk_passed left link_map i _ (of_linear before after chain) enough =
     let stored = AreLinked-right link_map None before (i ∷ after) None chain.2 in
@@ -83,7 +75,6 @@ walk_passed left link_map i _ (of_linear before after chain) enough =
 walk_passed left link_map i _ (of_cyclic after chain) enough =
     passes_cyclic left link_map i (last_or after (Some i)) (prev_of link_map i) i after chain.2 chain.1.0 enough
 
--- There is one walk from a link.
 pub no_other_walk : HasNoOtherWalk
 no_other_walk link_map i walk other is_walk is_other =
     let left = length walk + length other in

@@ -1,4 +1,3 @@
--- Each entry is moved to the end of the front, and visited there.
 use Rattle.std.proofs.Common.{◌≡◌, ◌+◌, ◌≤◌, length, refl, sym, ap, ◌∙◌, arith, of_calls}
 use Rattle.arena_base.specs.GatheredSlots.{with_totals}
 use Rattle.std.specs.Option.{option_copied_mut}

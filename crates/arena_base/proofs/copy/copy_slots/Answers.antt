@@ -1,4 +1,3 @@
--- Each slot is copied after the others.
 use Rattle.std.proofs.Common.{refl, sym, ap, ◌∙◌, Some, arith}
 use Rattle.arena_base.proofs.SlotCopyLemmas.{copying_begins, copying_frees, copying_returns, copied_alike, copied_all, copying_refused}
 use Rattle.arena_base.proofs.copy.copy_slots.Goals.{in-Allocated+in-Ok, in-Free}

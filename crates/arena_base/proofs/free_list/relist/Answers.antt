@@ -1,4 +1,3 @@
--- Each free slot is listed before those after it, and each entry is counted.
 use Rattle.std.proofs.Common.{◌≡◌, ◌-◌, length, sym, ◌∙◌, ap, arith}
 use Rattle.std.proofs.lemmas.List.{length-set}
 use Rattle.arena_base.proofs.TrimLemmas.{listing_frees, listing_takes, listing_ends}

@@ -1,4 +1,3 @@
--- The removed slots are free, and the rest ends in an entry.
 use Rattle.std.proofs.Common.{◌-◌, sym, ◌∙◌, arith}
 use Rattle.arena_base.proofs.TrimLemmas.{cut_more, cut_ends, cut_all}
 use Rattle.arena_base.proofs.free_list.trim.Goals.{then-loop-count-test+else-is_free_at, else-loop-count-test}

@@ -1,4 +1,3 @@
--- The next index is at most the greatest one.
 use Rattle.std.proofs.Common.{arith}
 use Rattle.arena_base.proofs.slot.inx_at.Goals as goal
 

@@ -1,4 +1,3 @@
--- The slot is written, and its index exists.
 use Rattle.std.proofs.Common.{Some, ◌∙◌, ap}
 use Rattle.arena_base.proofs.slot.list_at.Goals as goal
 

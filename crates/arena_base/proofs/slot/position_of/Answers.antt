@@ -1,4 +1,3 @@
--- No index is 0.
 use Rattle.std.proofs.Common.{arith}
 use Rattle.arena_base.proofs.slot.position_of.Goals as goal
 

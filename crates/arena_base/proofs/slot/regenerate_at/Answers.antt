@@ -1,4 +1,3 @@
--- Writes the slot that was read.
 use Rattle.std.proofs.Common.{sym, ap, ◌∙◌}
 use Rattle.arena_base.proofs.SlotLemmas.{with_generation_at-set}
 use Rattle.std.specs.Prelude.{slice_set}

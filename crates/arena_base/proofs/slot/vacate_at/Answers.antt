@@ -1,4 +1,3 @@
--- A slot without an entry stays the same.
 use Rattle.std.proofs.Common.{◌≡◌, Option, None, Some, sym, ◌∙◌, ap, refl}
 use Rattle.std.specs.Prelude.{IfNone, OnSome, slice_set}
 use Rattle.arena_base.specs.Slots.{entry_in}

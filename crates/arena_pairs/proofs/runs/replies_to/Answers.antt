@@ -1,4 +1,3 @@
--- Each call is made, and its reply is pushed within the capacity.
 use Rattle.std.proofs.Common.{sym, ◌∙◌, arith}
 use Rattle.arena_core.proofs.PointerKindLemmas.{kind_by}
 use Rattle.arena_pairs.proofs.PairRunLemmas.{pair_under_way_first, pair_under_way_more, pair_under_way_last}

@@ -1,4 +1,3 @@
--- With or without an error, each arena has one set of chains.
 use Rattle.std.proofs.Common.{Result, Ok, Err}
 use Rattle.std.specs.Prelude.{IfOk, OnErr, MatchResult}
 use Rattle.arena_pairs.proofs.runs.run_pair_calls.Goals as goal

@@ -1,4 +1,3 @@
--- The closure returns each value that it is passed.
 use Rattle.std.proofs.Common.{rules}
 use Rattle.arena_core.proofs.PointerKindLemmas.{kind_by}
 use Rattle.arena_pairs.proofs.KeptValueLemmas.{transfer_steps}

@@ -1,4 +1,3 @@
--- A lookup among the entries finds the entry at an index.
 use Rattle.std.proofs.Common.{ap, sym, ◌∙◌}
 use Rattle.arena_traits.specs.Entries.{found}
 use Rattle.arena_traits.proofs.EntryChangeLemmas.{entry_gone, entry_kept}

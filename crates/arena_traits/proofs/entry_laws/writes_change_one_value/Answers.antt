@@ -1,4 +1,3 @@
--- A lookup among the entries finds the entry at an index.
 use Rattle.arena_traits.proofs.EntryChangeLemmas.{value_there, values_elsewhere}
 use Rattle.arena_traits.proofs.entry_laws.writes_change_one_value.Goals as goal
 

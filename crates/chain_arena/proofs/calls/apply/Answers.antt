@@ -1,4 +1,3 @@
--- Each call is a step.
 use Rattle.std.proofs.Common.{refl, ap, subst}
 use Rattle.arena_core.proofs.PointerKindLemmas.{kind_by}
 use Rattle.chain_arena.specs.Steps.{ArrangeChainStep}

@@ -1,4 +1,3 @@
--- The links taken and the links left are the walk.
 use Rattle.std.proofs.Common.{rules, ◌∙◌}
 use Rattle.chain_arena.proofs.CallStepLemmas.{drained_is}
 use Rattle.chain_arena.proofs.calls.drain.Goals as goal

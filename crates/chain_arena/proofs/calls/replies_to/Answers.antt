@@ -1,4 +1,3 @@
--- Each call is made, and its reply is pushed within the capacity.
 use Rattle.std.proofs.Common.{sym, ◌∙◌, arith}
 use Rattle.arena_core.proofs.PointerKindLemmas.{kind_by}
 use Rattle.chain_arena.proofs.CallRunLemmas.{under_way_first, under_way_more, under_way_last}

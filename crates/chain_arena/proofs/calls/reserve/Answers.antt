@@ -1,4 +1,3 @@
--- The result of a growth is a step.
 use Rattle.arena_core.proofs.PointerKindLemmas.{kind_by}
 use Rattle.chain_arena.proofs.CallStepLemmas.{reserves}
 use Rattle.chain_arena.proofs.calls.reserve.Goals as goal

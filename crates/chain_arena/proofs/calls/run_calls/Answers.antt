@@ -1,4 +1,3 @@
--- With or without an error, the arena has one set of chains.
 use Rattle.std.proofs.Common.{Result, Ok, Err}
 use Rattle.std.specs.Prelude.{IfOk, OnErr, MatchResult}
 use Rattle.chain_arena.proofs.calls.run_calls.Goals as goal

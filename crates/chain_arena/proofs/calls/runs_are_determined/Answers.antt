@@ -1,4 +1,3 @@
--- Each step is determined.
 use Rattle.arena_core.proofs.PointerKindLemmas.{kind_by}
 use Rattle.chain_arena.proofs.DeterminismLemmas.{run_same, step_alike, run_in_capacity}
 use Rattle.chain_arena.proofs.calls.runs_are_determined.Goals as goal

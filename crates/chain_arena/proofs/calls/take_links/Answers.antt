@@ -1,4 +1,3 @@
--- Each step takes the first of the remaining links.
 use Rattle.std.proofs.Common.{ap, ◌∙◌, arith, length}
 use Rattle.chain_arena.specs.Drains.{walk_left, without_each}
 use Rattle.chain_arena.proofs.ChainDrainLemmas.{without_each-step}

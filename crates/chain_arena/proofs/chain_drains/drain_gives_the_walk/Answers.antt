@@ -1,4 +1,3 @@
--- Each step removes the first index of the remaining walk.
 use Rattle.chain_arena.proofs.DrainLawLemmas as lemmas
 use Rattle.chain_arena.proofs.chain_drains.drain_gives_the_walk.Goals as goal
 

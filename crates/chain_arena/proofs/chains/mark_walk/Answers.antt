@@ -1,4 +1,3 @@
--- Each link of the walk is marked, and becomes the head if it has no previous link.
 use Rattle.std.proofs.Common.{true, false, refl, ap, ◌∙◌, subst}
 use Rattle.std.specs.Prelude.{not}
 use Rattle.chain_arena.specs.ChainHeads.{MarksWalk}

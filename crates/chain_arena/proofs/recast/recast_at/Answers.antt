@@ -1,4 +1,3 @@
--- `recast_at` recasts the borrowed value.
 use Rattle.std.proofs.Common.{ap}
 use Rattle.arena_traits.specs.Entries.{ArenaView}
 use Rattle.chain_arena.proofs.recast.recast_at.Goals as goal

@@ -1,4 +1,3 @@
--- The link is inserted at the end of the chain, whose ends then include it.
 use Rattle.std.proofs.Common.{◌≡◌, ◌+◌, sym, ap₂, ◌∙◌, subst, subst₂}
 use Rattle.std.specs.Option.{option_map}
 use Rattle.chain_laws.specs.Insertions.{IsInsertPosition}
@@ -10,7 +9,6 @@ use Rattle.chain_arena.proofs.transfer.append_link.Given.{Over}
 use Rattle.chain_arena.proofs.transfer.append_link.Goals.{After-beside_end}
 use Rattle.chain_arena.proofs.transfer.append_link.Goals as goal
 
--- The next index is the new link's.
 at : (g : Over) (c : After-beside_end g) → g.P.Inx.InxKey.number c.inx-i.result ≡ next_index c.args.target.now
 at g c = c.inx-i.ensures ∙ c.requires.index
 

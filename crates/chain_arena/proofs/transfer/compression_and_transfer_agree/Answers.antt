@@ -1,4 +1,3 @@
--- A compression and a transfer follow the one least-index order.
 use Rattle.std.proofs.Common.{sym, ap, ◌∙◌, subst}
 use Rattle.chain_laws.specs.Chains.{all_items}
 use Rattle.chain_laws.specs.Renamings.{IsRenaming}

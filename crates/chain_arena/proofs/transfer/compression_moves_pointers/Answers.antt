@@ -1,4 +1,3 @@
--- A canonical compression of any arena of links moves pointers.
 use Rattle.chain_compaction.proofs.PointerMoveLemmas.{compression_moves_pointers as of_compression, compression_has_moves}
 use Rattle.chain_arena.proofs.transfer.compression_moves_pointers.Goals as goal
 

@@ -1,4 +1,3 @@
--- The loop of `transfer_links`: its beginning, one more link, and its end.
 use Rattle.std.proofs.Common.{◌≡◌, ◌+◌, ℕ, true, Option, None, Some, refl, sym, ap, ◌∙◌, subst, length, arith, of_calls}
 use Rattle.std.specs.Prelude.{is_some, IfSome}
 use Rattle.std.specs.Option.{option_map}
@@ -11,11 +10,9 @@ use Rattle.chain_arena.proofs.transfer.transfer_links.Given.{Over}
 use Rattle.chain_arena.proofs.transfer.transfer_links.Goals.{After-take_next-taken}
 use Rattle.chain_arena.proofs.transfer.transfer_links.Goals as goal
 
--- There is a link where an entry is found.
 stored : (g : Over) (a : g.row.A.Denot) (i : ℕ) → is_some (g.A.ChainArenaTrait.interlinks a i) ≡ is_some (found i (g.A.ArenaTrait.view a).entries)
 stored g a i = g.met.A.ChainArenaTrait.links_are_entries a i ∙ ap is_some (sym ((g.A.ArenaTrait.state a).finds i))
 
--- An entry found at an index, if one is given, is there.
 stored_entry : (g : Over) (a : g.row.A.Denot) (on : Option g.row.Q-Inx.Denot) → IfSome on (λ j. is_some (found (g.Q.Inx.InxKey.number j) (g.A.ArenaTrait.view a).entries) ≡ true)
     → IfSome on (λ j. is_some (g.A.ArenaTrait.entry a (g.Q.Inx.InxKey.number j)) ≡ true)
 stored_entry g a None there = tt
@@ -40,7 +37,6 @@ take_next-taken-requires g c = record {
   stored = stored_entry g c.loop-k.source c.loop-k.on (stored_on _ _ _ _ _ _ _ _ _ _ _ _ _ _ _ _ _ _ (stored g c.loop-k.source) g.Q.Inx.InxKey.number c.loop-k.on c.loop-k.invariant.carrying);
 }
 
--- The state after the link was taken.
 carrying_it : (g : Over) (c : After-take_next-taken g) → IsCarrying g.Q.PtrKey.key g.P.PtrKey.key g.Q.Gen.GenKey.following g.Q.Gen.GenKey.wraps g.F.FnMut g.P.Inx.InxKey.number
     (g.A.ArenaTrait.view c.args.source.now) (g.A.ChainArenaTrait.interlinks c.args.source.now) c.args.map c.args.target.now
     c.loop-k.k (g.A.ArenaTrait.view c.loop-k.source) (g.A.ChainArenaTrait.interlinks c.loop-k.source) (g.A.ArenaTrait.cursor c.take_next-taken.new.advancer)
@@ -51,7 +47,6 @@ carrying_it g c =
 pub map-t-requires : goal.map-t-requires
 map-t-requires g c = search of_calls
 
--- The next index is the one after the last link.
 the_place : (g : Over) (c : After-take_next-taken g) → next_index c.loop-k.target ≡ c.loop-k.k + 1
 the_place g c = next_index_at _ _ _ _ _ _ _ _ _ _ _ _ _ _ _ _ _ _ (stored g c.loop-k.source) _ (carrying_it g c) c.requires.empty.1
 

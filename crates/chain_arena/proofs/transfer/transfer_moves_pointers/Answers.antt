@@ -1,4 +1,3 @@
--- A transfer moves pointers, whatever is transferred over.
 use Rattle.chain_arena.proofs.PointerTransferLemmas.{transfer_moves_pointers as of_transfer}
 use Rattle.chain_arena.proofs.transfer.transfer_moves_pointers.Goals as goal
 

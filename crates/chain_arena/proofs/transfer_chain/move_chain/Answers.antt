@@ -1,4 +1,3 @@
--- The loop of `move_chain`: its beginning, one more link, and its end.
 use Rattle.std.proofs.Common.{◌≡◌, [], Some, refl, ap, ◌∙◌, rules, of_calls}
 use Rattle.chain_laws.specs.Walks.{IsWalk}
 use Rattle.chain_links.specs.ChainArena.{link_map}
@@ -9,7 +8,6 @@ use Rattle.chain_arena.proofs.transfer_chain.move_chain.Given.{Over}
 use Rattle.chain_arena.proofs.transfer_chain.move_chain.Goals.{After-invariants}
 use Rattle.chain_arena.proofs.transfer_chain.move_chain.Goals as goal
 
--- The walk of the pointer.
 is_walk : (g : Over) (c : After-invariants g) → let i = (g.P.PtrKey.key c.args.p).0 in IsWalk (link_map c.args.source.now) i (walk_left c.args.source.now i)
 is_walk g c = walk_left-valid c.args.source.now (g.P.PtrKey.key c.args.p) c.invariants.ensures.agree c.requires.valid
 

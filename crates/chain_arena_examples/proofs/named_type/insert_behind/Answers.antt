@@ -1,4 +1,3 @@
--- The new link is directly after the link that the kind names.
 use Rattle.std.proofs.Common.{Result, Ok, Err, inl, inr, refl}
 use Rattle.std.specs.Prelude.{IfOk}
 use Rattle.arena_core.specs.declared.errors.ChainInsertionError.{ChainInsertionError}
@@ -8,7 +7,6 @@ use Rattle.chain_links.specs.ChainArena.{value_view}
 use Rattle.chain_links.specs.Insertions.{IsInsertionResult}
 use Rattle.chain_arena_examples.proofs.named_type.insert_behind.Goals as goal
 
--- A consequence of what an insertion did holds on `Ok`.
 inserted : {P : Type 0} (may : Type 0) (refuses : ReallocationError → Type 0) (done so : P → Type 0) (o : Result P ChainInsertionError) → IsInsertionResult may refuses done o → ((p : P) → done p → so p) → IfOk o so
 inserted may refuses done so (Ok p) is then = then p is.1
 inserted may refuses done so (Err e) is then = tt

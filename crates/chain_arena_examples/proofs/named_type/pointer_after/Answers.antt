@@ -1,4 +1,3 @@
--- The returned pointer has the index that the link names.
 use Rattle.std.proofs.Common.{◌≡◌, Some, sym, ap, ◌∙◌, subst}
 use Rattle.std.specs.Prelude.{IfSome, is_some}
 use Rattle.chain_laws.specs.Chains.{next_of}

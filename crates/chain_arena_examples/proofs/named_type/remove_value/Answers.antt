@@ -1,4 +1,3 @@
--- The removal links the neighbors of the removed link.
 use Rattle.std.proofs.Common.{◌≡◌, ℕ, Option, None, Some}
 use Rattle.std.specs.Prelude.{OnSome}
 use Rattle.arena_core.specs.Invalidation.{value_within}
@@ -8,7 +7,6 @@ use Rattle.chain_links.specs.ChainArena.{LinkView, link_map}
 use Rattle.chain_arena.specs.Effects.{IsRemoval}
 use Rattle.chain_arena_examples.proofs.named_type.remove_value.Goals as goal
 
--- The links after a removal, if there was one.
 removes_links : {Gen T R : Type 0} (following : Gen → Gen) (old new : Arena Gen (LinkView T)) (i : ℕ) (o : Option R) → OnSome o (IsRemoval following old i new) → OnSome o (link_map new ≡ with_removal (link_map old) i)
 removes_links following old new i None is = tt
 removes_links following old new i (Some t) is = is.removed.links

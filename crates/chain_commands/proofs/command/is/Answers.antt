@@ -1,4 +1,3 @@
--- The loop ends at the first bytes that differ, or with equal texts.
 use Rattle.std.proofs.Common.{[], ◌∷◌, ◌++◌, refl, sym, ap₂, ◌∙◌, arith, take_all}
 use Rattle.std.proofs.lemmas.List.{take_more}
 use Rattle.std.proofs.lemmas.Slice.Eq.{bytes_eq-Decides}

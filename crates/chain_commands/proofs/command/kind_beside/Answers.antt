@@ -1,4 +1,3 @@
--- Proof by cases on the name of the kind.
 use Rattle.std.proofs.Common.{◌∙◌, sym, inl, inr}
 use Rattle.chain_laws.specs.declared.insert_kind.InsertKind.TheVariants as kinds
 use Rattle.chain_commands.proofs.KindLemmas.{by_either-mapped, not_read}

@@ -1,4 +1,3 @@
--- The words of the line without its carriage return give the command.
 use Rattle.std.proofs.Common.{arith, ap, sym, ◌∙◌}
 use Rattle.chain_commands.specs.Commands.{line_with}
 use Rattle.chain_commands.proofs.LineSplitLemmas.{line_of-words, return_stripped}

@@ -1,4 +1,3 @@
--- A call on the first arena is a step of two arenas that leaves the second one unchanged.
 use Rattle.std.proofs.Common.{refl, rules}
 use Rattle.arena_pairs.specs.declared.calls.PairReply.TheVariants.{Replied}
 use Rattle.chain_commands.proofs.execute.make_call.Goals as goal

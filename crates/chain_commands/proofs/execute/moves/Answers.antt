@@ -1,4 +1,3 @@
--- The moves are written after the step, into capacity reserved before it.
 use Rattle.std.proofs.Common.{refl, ◌≡◌, ◌∙◌, ◌++◌, ◌+◌, ◌<◌, ◌≤◌, List, ℕ, [], sym, ap, length, arith, string_bytes, length-append}
 use Rattle.arena_ptr.specs.Generations.{two32, after32}
 use Rattle.arena_ptr.specs.ToolPtr.{key_of}
@@ -6,11 +5,9 @@ use Rattle.chain_commands.specs.Responses.{moves_text}
 use Rattle.chain_compaction.proofs.VisitorLemmas.{moves_count}
 use Rattle.chain_commands.proofs.execute.moves.Goals as goal
 
--- A cleared text has capacity for what was reserved.
 fits_into : (before added : List ℕ) (n len new_capacity : ℕ) → before ≡ [] → length added < n → len + n ≤ new_capacity → length before + length added ≤ new_capacity
 fits_into before added n len new_capacity none less fits = omega (arith, ap length none, less, fits)
 
--- After the response there is capacity for one more byte.
 capacity_after : (before text added : List ℕ) (n len new_capacity capacity_now : ℕ) → before ≡ [] → text ≡ before ++ added → length added < n → len + n ≤ new_capacity → new_capacity ≤ capacity_now → length text + 1 ≤ capacity_now
 capacity_after before text added n len new_capacity capacity_now none is less fits more =
     omega (arith, ap length none, ap length is, length-append before added, less, fits, more)

@@ -15,14 +15,12 @@ bad_ends : {T E : Type 0} (old new : ToolArenas) (line : Line) (words text : Lis
 bad_ends old new line words text (Ok x) is same bad written = record { ok = subst (λ l. RespondsToLine old l text new) is (written ∙ ap (λ b. b ++ 10 ∷ []) bad, same); err = tt }
 bad_ends old new line words text (Err e) is same bad written = record { ok = tt; err = inl same }
 
--- The response of one branch is that of the command.
 joined : (old : ToolArenas) {command found : Command} {a b here beside : ToolLinks} {text there : String Global} → command ≡ found → a ≡ here → b ≡ beside → text ≡ there
     → RespondsToCommand old found (string_bytes there) (here, beside) → RespondsToCommand old command (string_bytes text) (a, b)
 joined old {command} {found} {a} {b} {here} {beside} {text} {there} is first second written responds =
     subst (λ k. RespondsToCommand old k (string_bytes text) (a, b)) (sym is)
     (subst (λ (arenas : ToolArenas). RespondsToCommand old found (string_bytes text) arenas) (sym (same_arenas first second)) (subst (λ (t : String Global). RespondsToCommand old found (string_bytes t) (here, beside)) (sym written) responds))
 
--- Another command need not have allocated its line feed.
 not_first : {X : Type 0} (command found : Command) → command ≡ found → (AllocatesFirst found → ⊥) → AllocatesFirst command → X
 not_first command found is none first = absurd (none (subst AllocatesFirst is first))
 

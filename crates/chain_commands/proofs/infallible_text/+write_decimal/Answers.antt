@@ -1,4 +1,3 @@
--- The last digit follows the digits of `n / 10`.
 use Rattle.std.proofs.Common.{◌∙◌, ◌++◌, ◌∷◌, [], ◌/◌, ◌%◌, ◌+◌, decimal, string_bytes, length, sym, ap, arith, append_assoc, length-append}
 use Rattle.std.proofs.lemmas.Fmt.{decimal_step, decimal_digit}
 use Rattle.chain_commands.proofs.infallible_text.+write_decimal.Goals as goal

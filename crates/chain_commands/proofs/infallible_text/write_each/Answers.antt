@@ -4,7 +4,6 @@ use Rattle.arena_ptr.specs.declared.tool_ptr.ToolPtr.{ToolPtr}
 use Rattle.chain_commands.specs.Responses.{move_text}
 use Rattle.chain_commands.proofs.infallible_text.write_each.Goals as goal
 
--- If the capacity suffices for all moves that are left, it suffices for the first.
 first_capacity : (text all start : List ℕ) (rest others : List (ToolPtr × ToolPtr)) (m : ToolPtr × ToolPtr) (old new : ℕ) → rest ≡ m ∷ others
     → text ++ concat (map move_text rest) ≡ start ++ all → length start + length all ≤ old → old ≤ new → length text + length (move_text m) ≤ new
 first_capacity text all start rest others m old new is whole fits more =

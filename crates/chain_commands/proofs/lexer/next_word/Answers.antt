@@ -17,7 +17,6 @@ some_if n b e t = grind (arith, common_steps)
 pub returns-then-is_empty : goal.returns-then-is_empty
 returns-then-is_empty c =
     let text = c.args.text.now in
-    -- The leading spaces are counted.
     let spaces : c.count.result ≡ length (take_while is_space text) = count_from_yields_List c.take_while.result c.count.result c.count.ensures.ran
     (YieldsList-from_take_while _ is_space (YieldsList-from_slice text (ap iter_rest c.take_while.ensures.source ∙ c.iter.ensures.rest)) c.take_while.ensures.closure c.take_while.ensures.done (λ x b q k. search (rules, tests))) in
     record {
@@ -28,7 +27,6 @@ returns-then-is_empty c =
 pub returns : goal.returns
 returns c =
     let text = c.args.text.now in
-    -- The leading spaces are counted.
     let spaces : c.count.result ≡ length (take_while is_space text) = count_from_yields_List c.take_while.result c.count.result c.count.ensures.ran
     (YieldsList-from_take_while _ is_space (YieldsList-from_slice text (ap iter_rest c.take_while.ensures.source ∙ c.iter.ensures.rest)) c.take_while.ensures.closure c.take_while.ensures.done (λ x b q k. search (rules, tests))) in
     let rest = c.split_at.result.1.now in

@@ -1,4 +1,3 @@
--- As many bytes are kept as the limit allows.
 use Rattle.std.proofs.Common.{◌++◌, ap, ◌∙◌, arith}
 use Rattle.chain_commands.proofs.LineSplitLemmas.{kept_more}
 use Rattle.chain_commands.proofs.session.buffer_line.Goals as goal

@@ -1,4 +1,3 @@
--- The executed line is what was kept, followed by the front of the piece.
 use Rattle.std.proofs.Common.{◌≡◌, List, ℕ, ◌++◌, take, ap, ◌∙◌, sym, subst, refl, string_bytes, Result, Ok, Err, OnOk, IsErrAnd, arith}
 use Rattle.chain_commands.specs.Commands.{line_of}
 use Rattle.chain_commands.specs.Responses.{ToolArenas}
@@ -9,7 +8,6 @@ use Rattle.chain_commands.proofs.LineSplitLemmas.{line_of-take}
 use Rattle.chain_commands.proofs.session.end_line.Goals as goal
 use Rattle.chain_commands.proofs.session.end_line.Goals.{then-is_empty+in_ok-respond, else-is_empty+in_ok-buffer_line+in_ok-respond-2}
 
--- Nothing is claimed of a success.
 no_success : {T E : Type 0} (P : Type 0) (Q : E → Type 0) (r : Result T E) → IsErrAnd r Q → OnOk r P
 no_success P Q (Ok x) fails = absurd fails
 no_success P Q (Err e) fails = tt
@@ -18,7 +16,6 @@ anyhow : {T E : Type 0} {P : Type 0} (r : Result T E) → P → OnOk r P
 anyhow (Ok x) known = known
 anyhow (Err e) known = tt
 
--- What was kept of a line is executed with the rest of it.
 line_joined : (whole kept line : List ℕ) → whole ≡ kept → kept ≡ take 201 line → line_of whole ≡ line_of line
 line_joined whole kept line same is = ap line_of (same ∙ is) ∙ line_of-take line
 

@@ -1,4 +1,3 @@
--- The arenas of a run are new ones.
 use Rattle.std.proofs.Common.{refl, subst}
 use Rattle.chain_commands.specs.Responses.{ToolArenas}
 use Rattle.chain_commands.specs.Transcripts.{Ends}

@@ -12,12 +12,10 @@ use Rattle.chain_commands.proofs.ProgressLemmas.{response-flushed}
 use Rattle.chain_commands.proofs.RunEndLemmas.{HasRead-nothing, HasRead-flushed, HasRead-fed, Ends-fed, Ends-unread, Ends-unflushed, Ends-finished, Ends-no_capacity}
 use Rattle.chain_commands.proofs.session.run_on.Goals as goal
 
--- A failed flush is a failure of the writer.
 flush_error : {A E : Type 0} (r : Result A E) (q : Result A ToolError) → q ≡ result_or r (Err errors.Write) → IfErr q (λ e. e ≡ errors.Write)
 flush_error (Ok x) q is = subst (λ (s : Result _ ToolError). IfErr s (λ e. e ≡ errors.Write)) (sym is) tt
 flush_error (Err e) q is = subst (λ (s : Result _ ToolError). IfErr s (λ e. e ≡ errors.Write)) (sym is) refl
 
--- The first bytes of the piece are those that were read.
 piece_read : (n len : ℕ) (read items piece : List ℕ) → length read ≡ len → piece ≡ take len (read ++ drop (length read) items) → take n piece ≡ take n read
 piece_read n len read items piece long is =
     ap (take n) (is ∙ ap (λ m. take m (read ++ drop (length read) items)) (sym long) ∙ take-append_seam read (drop (length read) items))

@@ -5,7 +5,6 @@ use Rattle.std.proofs.KnownBytes.{Appends-trans, Appends-kept}
 use Rattle.chain_commands.proofs.session.write_fully.Goals as goal
 use Rattle.chain_commands.proofs.session.write_fully.Goals.{in-Ok, in-Err+else-ne}
 
--- The writer takes `n` more bytes.
 more : (a b c : Option (List ℕ)) (text rest : List ℕ) (w n m : ℕ) → m ≡ w + n → rest ≡ drop w text → Appends a b (take w text) → Appends b c (take n rest) → Appends a c (take m text)
 more a b c text rest w n m sum e first next =
     subst (λ k. Appends a c (take k text)) (sym sum) (

@@ -1,4 +1,3 @@
--- `close_ring` writes the start of a cyclic chain, and otherwise changes nothing.
 use Rattle.std.proofs.Common.{ap}
 use Rattle.std.specs.Option.{option_map}
 use Rattle.chain_compaction.proofs.DestinationWriteLemmas.{closes}

@@ -1,4 +1,3 @@
--- `number_all` numbers the next chain, or passes a slot where none begins.
 use Rattle.std.proofs.Common.{◌≡◌, ◌⊎◌, inl, inr, ◌+◌, ◌-◌, ◌∙◌, length, refl, sym, ap, arith}
 use Rattle.arena_traits.specs.Arena.{slot_at}
 use Rattle.chain_compaction.specs.DetachedLinks.{link_map_in}
@@ -31,7 +30,6 @@ start_from-start-requires-clause-chain g c =
     c.loop-k.invariant.order (g.P.Inx.InxKey.number c.inx_at-i.result) c.inx_at-i.ensures (sym (fresh_read g.P.Inx.InxKey.packed_number g.P.Inx.InxKey.number (slot_at now.detached.slots (g.P.Inx.InxKey.number c.inx_at-i.result)) c.read_link-link.result.generation c.read_link-link.result.destination lookup.generation lookup.destination) ∙ sym c.is_fresh.ensures ∙ c.if-not-is_fresh.false)
     c.read_ahead.new.compactor.detached (c.read_ahead.ensures.read.detached ∙ lookup.was_read.detached)
 
--- The starts that are known after the reads ahead.
 known_now : (g : Over) (c : After-read_ahead g) → AreStarts (link_map_in g.P.Inx.InxKey.packed_number c.args.compactor.now.detached.slots) c.read_ahead.new.ahead.first c.read_ahead.new.ahead.starts
 known_now g c =
     let now = c.loop-k.compactor in

@@ -1,4 +1,3 @@
--- `number_chain` has a free number for one more link, and goes on.
 use Rattle.std.proofs.Common.{◌≡◌, ◌+◌, ◌<◌, ℕ, List, length, Option, None, Some, refl, sym, ap, ◌∙◌, subst, arith}
 use Rattle.std.specs.Prelude.{true, false, IsSome}
 use Rattle.std.specs.Option.{option_map}
@@ -12,7 +11,6 @@ use Rattle.chain_compaction.proofs.assign_destinations.number_chain.Goals.{In-So
 use Rattle.chain_compaction.proofs.assign_destinations.number_chain.Given.{Over}
 use Rattle.chain_compaction.proofs.assign_destinations.number_chain.Goals as goal
 
--- The walk is at its next link.
 walk_at : (g : Over) (c : In-Some g) (done : List ℕ) (l : Chain) → CanNumber g.P.Inx.InxKey.packed_number c.args.compactor.now.detached.slots (g.P.Inx.InxKey.number c.args.start) c.args.before done l
     → IsWalking g.P.Inx.InxKey.packed_number g.V.Visitor.sees g.P.PtrKey.key c.args.generation c.args.visitor c.loop-on.visitor c.args.compactor.now.detached c.loop-on.compactor.detached
     c.args.compactor.now.arena.now c.loop-on.compactor.arena.now c.loop-on.count (g.P.Inx.InxKey.number c.args.start) (Some (g.P.Inx.InxKey.number c.in-Some.i)) (option_map g.P.Inx.InxKey.number c.loop-on.named) (option_map g.P.Inx.InxKey.number c.loop-on.prev) done l
@@ -21,7 +19,6 @@ walk_at g c done l can =
     c.args.compactor.now.arena.now c.loop-on.compactor.arena.now c.loop-on.count (g.P.Inx.InxKey.number c.args.start) (option_map g.P.Inx.InxKey.number o) (option_map g.P.Inx.InxKey.number c.loop-on.named) (option_map g.P.Inx.InxKey.number c.loop-on.prev) done l)
     c.in-Some.is (c.loop-on.invariant.walks done l can)
 
--- Fewer links are numbered than there are slots.
 capacity_at : (g : Over) (c : In-Some g) → c.loop-on.count < length c.args.compactor.now.detached.slots
 capacity_at g c =
     let can = c.requires.chain.can in
@@ -51,7 +48,6 @@ some_there : {X : Type 0} (o : Option X) → IsSome o → (x : X) × (o ≡ Some
 some_there None some = let both : false ≡ true = some in absurd (cc)
 some_there (Some x) some = (x, refl)
 
--- If the walk goes on, the next link has a free number too.
 pub next_destination-after-requires-clause-next : goal.next_destination-after-requires-clause-next
 next_destination-after-requires-clause-next g c some =
     let next = (goal.at.next_destination-after-requires-clause-next g c).In-Some in
@@ -70,7 +66,6 @@ proved_unreachable-assume_proved-requires g c = absurd (
     (option_map g.P.Inx.InxKey.number c.loop-on.named) (option_map g.P.Inx.InxKey.number c.loop-on.prev) (g.P.Inx.InxKey.number c.in-Some.i) (walk_at g next can.0 can.1 can.2)
     (sym c.in-None.is ∙ c.read_link-link.ensures.generation))
 
--- The slots after the write.
 linked_now : (g : Over) (c : After-relink_at g) → IsRelinkedAt g.P.Inx.InxKey.packed_number (g.P.Inx.InxKey.number c.in-Some.i) (option_map g.P.Inx.InxKey.number c.loop-on.prev)
     (number_after (option_map g.P.Inx.InxKey.number c.step_on-on.result) (option_map g.P.Inx.InxKey.number c.read_link-link.result.next) c.args.before (c.loop-on.count + 1)) (Some (g.P.Inx.InxKey.number c.inx_at-destination.result))
     c.loop-on.compactor.detached c.relink_at.new.compactor.detached

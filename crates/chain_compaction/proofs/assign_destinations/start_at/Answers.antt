@@ -1,4 +1,3 @@
--- `start_at` walks back to the start of a linear chain, or once around a cyclic one.
 use Rattle.std.proofs.Common.{◌≡◌, ℕ, ◌+◌, ◌⊎◌, inl, inr, Option, Some, refl, sym, ap, ◌∙◌, subst, arith}
 use Rattle.std.specs.Option.{option_map}
 use Rattle.std.proofs.lemmas.Bool.{false≢true}
@@ -12,14 +11,12 @@ use Rattle.chain_compaction.proofs.LinkLoanLemmas.{detached_then}
 use Rattle.chain_compaction.proofs.WorkCountLemmas.{counts_none, counts_on}
 use Rattle.chain_compaction.proofs.assign_destinations.start_at.Goals as goal
 
--- A walk on is at its link, or at one that it reached before, or at the one after that.
 met_onward : (link_map : LinkMap) (i k : ℕ) (on next : Option ℕ) → ((j : ℕ) → on ≡ Some j → IsOnward link_map i j) → ((j : ℕ) → next ≡ Some j → (l : ℕ) × (on ≡ Some l) × (next_of link_map l ≡ Some j))
     → (k ≡ i) ⊎ ((on ≡ Some k) ⊎ (next ≡ Some k)) → IsOnward link_map i k
 met_onward link_map i k on next onward after (inl e) = subst (λ (j : ℕ). IsOnward link_map i j) (sym e) (on_begins link_map i)
 met_onward link_map i k on next onward after (inr (inl e)) = onward k e
 met_onward link_map i k on next onward after (inr (inr e)) = let l = after k e in on_continues link_map i l.0 k (onward l.0 l.1) l.2
 
--- The link after one of a walk on is onward, too.
 next_onward : (link_map : LinkMap) (i : ℕ) (on next : Option ℕ) → ((j : ℕ) → on ≡ Some j → IsOnward link_map i j) → ((j : ℕ) → next ≡ Some j → (l : ℕ) × (on ≡ Some l) × (next_of link_map l ≡ Some j))
     → (k : ℕ) → next ≡ Some k → IsOnward link_map i k
 next_onward link_map i on next onward after k e = met_onward link_map i k on next onward after (inr (inr e))

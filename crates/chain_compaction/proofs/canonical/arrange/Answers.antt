@@ -1,4 +1,3 @@
--- `arrange` places all links, leaves no free slot, and returns the arena's work.
 use Rattle.std.proofs.Common.{rules, ◌≡◌, ◌+◌, sym, ap, ◌∙◌, subst}
 use Rattle.chain_links.specs.Links.{AreAtRest}
 use Rattle.chain_compaction.proofs.CanonicalLayoutLemmas.{counted_first, agree-detached, links_arranged, work_known}

@@ -1,4 +1,3 @@
--- `place_all` renews the links or moves them, after a test that reads each link at most once.
 use Rattle.std.specs.Prelude.{count_by, is_some}
 use Rattle.std.proofs.Common.{rules, length, sym, ap, ◌∙◌, subst, arith}
 use Rattle.chain_links.specs.Links.{AreAtRest}

@@ -1,4 +1,3 @@
--- `compact_links` moves each link to the end of the front, and calls the closure with its value.
 use Rattle.std.proofs.Common.{refl, of_calls}
 use Rattle.arena_base.proofs.HoleClosingLemmas.{closing_begins}
 use Rattle.chain_links.proofs.ArenaInsertionLemmas.{slots-within}

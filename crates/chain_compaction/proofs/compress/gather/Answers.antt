@@ -1,4 +1,3 @@
--- `gather` leaves an arena in which every slot is occupied.
 use Rattle.std.proofs.Common.{rules, ap, sym, ◌∙◌, subst}
 use Rattle.chain_laws.specs.Chains.{IsWellLinked}
 use Rattle.chain_links.specs.Links.{AreAtRest}

@@ -1,4 +1,3 @@
--- `index_now` maps the index of the moved link, and no other.
 use Rattle.chain_compaction.proofs.MovedNeighborLemmas.{differ, found_same, named_moved, named_stays, none_moved}
 use Rattle.chain_compaction.proofs.compress.index_now.Goals as goal
 

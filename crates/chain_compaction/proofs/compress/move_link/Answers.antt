@@ -1,4 +1,3 @@
--- `move_link` places the link and updates its neighbors.
 use Rattle.std.proofs.Common.{sym, ◌∙◌, subst}
 use Rattle.std.specs.Option.{option_map}
 use Rattle.chain_links.specs.Links.{AreAtRest}

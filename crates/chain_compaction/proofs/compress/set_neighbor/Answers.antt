@@ -1,4 +1,3 @@
--- `set_neighbor` writes the link, if there is one.
 use Rattle.std.proofs.Common.{Some, refl, ap, sym, subst}
 use Rattle.chain_links.specs.Links.{AreAtRest}
 use Rattle.chain_compaction.specs.DetachedLinks.{link_map_in}

@@ -1,4 +1,3 @@
--- `is_in_order` reads one more link, which goes on with a run or ends it.
 use Rattle.std.proofs.Common.{◌≡◌, ◌+◌, false, length, arith}
 use Rattle.chain_compaction.specs.DetachedLinks.{link_map_in}
 use Rattle.chain_compaction.proofs.ReadAheadLemmas.{reads_none, reads_few, reads_more}

@@ -1,4 +1,3 @@
--- `regenerate_all` sets the generation of one more link, and the visitor sees it.
 use Rattle.std.proofs.Common.{◌≡◌, ◌+◌, length, refl, sym, subst, arith}
 use Rattle.arena_traits.specs.Arena.{slot_at}
 use Rattle.chain_links.specs.ChainArena.{ptr_at}

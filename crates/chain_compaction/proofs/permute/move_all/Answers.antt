@@ -1,4 +1,3 @@
--- `move_all` settles one more block, and all in the end.
 use Rattle.std.proofs.Common.{◌≡◌, ℕ, ◌+◌, ◌≤◌, length, refl, sym, ◌∙◌, subst, arith}
 use Rattle.chain_compaction.specs.Permutations.{ArePassed, waiting_count, Settles, IsWorkInRounds}
 use Rattle.chain_compaction.proofs.SlotCountLemmas.{waiting-all}

@@ -1,4 +1,3 @@
--- `move_block` reads before a round of moves and makes it, until the list of positions is empty.
 use Rattle.std.proofs.Common.{◌+◌, ◌-◌, length, slice_index, sym, ap, ◌∙◌, subst, arith}
 use Rattle.arena_traits.specs.Arena.{slot_at}
 use Rattle.arena_base.specs.DetachedSlots.{DetachedView}
@@ -12,7 +11,6 @@ use Rattle.chain_compaction.proofs.permute.move_block.Goals as goal
 use Rattle.chain_links.specs.Links.{destination_of}
 use Rattle.chain_compaction.proofs.WorkCountLemmas.{slots_on, slots_detached}
 
--- The positions and the moves so far, after the reads before a round.
 here : (g : Over) (c : After-move_waiting-arg-in-loop-left-1 g) → IsBlockRead (destination_of g.P.Inx.InxKey.packed_number) (Settles g.P.Inx.InxKey.packed_number c.args.generation) c.args.start c.args.count
     c.loop-left.positions c.loop-left.left c.args.compactor.now.detached c.loop-left.compactor.detached c.read_destinations-reads_ahead.new.compactor.detached
 here g c =

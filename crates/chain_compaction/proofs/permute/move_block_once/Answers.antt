@@ -1,4 +1,3 @@
--- `move_block_once` moves the link at one more slot, and lists the slot if a link may still wait there.
 use Rattle.std.proofs.Common.{◌≡◌, ◌∙◌, ◌+◌, ◌-◌, ℕ, false, List, sym, ap, subst, arith}
 use Rattle.arena_traits.specs.Arena.{slot_at}
 use Rattle.chain_compaction.specs.Permutations.{IsInBlock, ListsWaiting, waiting_count, Settles, IsWorkOn}

@@ -1,4 +1,3 @@
--- `move_to_destination` moves the link to its destination, and one link less waits.
 use Rattle.std.proofs.Common.{◌≡◌, ℕ, Bool, true, false, Some, refl, sym, ap, ◌∙◌, subst, arith}
 use Rattle.std.specs.Prelude.{not}
 use Rattle.std.specs.Option.{option_map}
@@ -13,7 +12,6 @@ use Rattle.chain_compaction.proofs.permute.move_to_destination.Goals.{In-Some}
 use Rattle.chain_compaction.proofs.permute.move_to_destination.Goals as goal
 use Rattle.chain_links.specs.Links.{destination_of, destination_at}
 
--- The link's destination, as the slots show it.
 destination_is : (g : Over) (c : In-Some g) → Some (g.P.Inx.InxKey.number c.in-Some.to) ≡ destination_at g.P.Inx.InxKey.packed_number c.args.compactor.now.detached.slots (g.P.Inx.InxKey.number c.args.i)
 destination_is g c = sym (ap (option_map g.P.Inx.InxKey.number) c.in-Some.is) ∙ c.read_link.ensures.destination
 

@@ -1,4 +1,3 @@
--- `move_waiting` moves one more link of the block, or shortens the list of its positions.
 use Rattle.std.proofs.Common.{◌+◌, ◌-◌, length, slice_index, subst, arith}
 use Rattle.arena_traits.specs.Arena.{slot_at}
 use Rattle.chain_compaction.specs.Permutations.{IsInBlock, waiting_count, Settles, IsWorkOn}

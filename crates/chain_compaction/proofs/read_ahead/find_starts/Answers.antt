@@ -1,4 +1,3 @@
--- A round takes one step of each walk that is left.
 use Rattle.std.proofs.Common.{◌+◌, ap, sym, subst, arith}
 use Rattle.std.specs.Prelude.{replicate}
 use Rattle.chain_compaction.specs.FoundStarts.{AreWalksBack, AreStartsOfFresh}

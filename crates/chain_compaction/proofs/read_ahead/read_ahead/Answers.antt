@@ -1,4 +1,3 @@
--- `read_ahead` reads no more slots than its credit allows.
 use Rattle.std.proofs.Common.{◌+◌, ◌-◌, ◌∙◌, inr, sym, subst, arith}
 use Rattle.chain_compaction.specs.FoundStarts.{AreFreshNear, AreStartsOfFresh}
 use Rattle.chain_compaction.proofs.ReadAheadLemmas.{reads_then}

@@ -1,4 +1,3 @@
--- A round reads one link of each walk that is left.
 use Rattle.std.proofs.Common.{◌+◌, arith}
 use Rattle.chain_compaction.proofs.ReadAheadLemmas.{reads_then}
 use Rattle.chain_compaction.proofs.read_ahead.read_along.Goals as goal

@@ -1,4 +1,3 @@
--- `read_destinations` reads at most two more slots.
 use Rattle.std.proofs.Common.{◌+◌, ◌*◌, arith}
 use Rattle.chain_compaction.proofs.ReadAheadLemmas.{reads_then}
 use Rattle.chain_compaction.proofs.read_ahead.read_destinations.Goals as goal

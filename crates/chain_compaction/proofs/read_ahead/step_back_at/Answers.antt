@@ -1,4 +1,3 @@
--- `step_back_at` goes on to the previous link, or is at the start.
 use Rattle.std.proofs.Common.{◌≡◌, ◌+◌, ◌∙◌, Some, None, sym, ap}
 use Rattle.std.specs.Option.{option_map}
 use Rattle.chain_laws.specs.Chains.{prev_of}
@@ -8,7 +7,6 @@ use Rattle.chain_compaction.proofs.read_ahead.step_back_at.Given.{Over}
 use Rattle.chain_compaction.proofs.read_ahead.step_back_at.Goals.{After-position_of-prev}
 use Rattle.chain_compaction.proofs.read_ahead.step_back_at.Goals as goal
 
--- The link before the one at position k is at the position that is returned.
 prev_is : (g : Over) (c : After-position_of-prev g) → prev_of (link_map_in g.P.Inx.InxKey.packed_number c.args.compactor.now.detached.slots) (c.args.k + 1) ≡ Some (c.position_of-prev.result + 1)
 prev_is g c =
     ap (prev_of (link_map_in g.P.Inx.InxKey.packed_number c.args.compactor.now.detached.slots)) (sym c.inx_at.ensures)

@@ -1,4 +1,3 @@
--- Each step reads one more link, and goes on or ends a walk.
 use Rattle.std.proofs.Common.{◌+◌, ◌-◌, ◌<◌, ◌≤◌, ◌∙◌, slice_index, arith}
 use Rattle.std.proofs.lemmas.List.{length-set}
 use Rattle.chain_compaction.proofs.ReadAheadLemmas.{reads_more, reads_few, below_replaced, below_fewer}

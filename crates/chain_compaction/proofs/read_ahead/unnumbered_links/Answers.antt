@@ -1,4 +1,3 @@
--- `unnumbered_links` reads one more slot, and lists its link or not.
 use Rattle.std.proofs.Common.{◌≡◌, ◌+◌, ◌∙◌, length, true, ap, sym, subst, arith}
 use Rattle.std.proofs.Math.ListN.{length-set}
 use Rattle.std.proofs.lemmas.Bool.{OnTrue_at}

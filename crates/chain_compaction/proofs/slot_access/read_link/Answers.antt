@@ -1,4 +1,3 @@
--- `read_link` touches one slot, and returns what the entry contains.
 use Rattle.std.proofs.Common.{◌∙◌}
 use Rattle.arena_traits.specs.Arena.{slot_at}
 use Rattle.chain_compaction.proofs.SlotReadLemmas.{has_read, entry_reported, nothing_reported}

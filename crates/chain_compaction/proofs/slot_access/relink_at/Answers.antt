@@ -1,4 +1,3 @@
--- `relink_at` writes the interlinks and the destination, if there is a link.
 use Rattle.std.proofs.Common.{Some}
 use Rattle.std.specs.Option.{option_map}
 use Rattle.chain_compaction.proofs.DestinationWriteLemmas.{links_both, links_none}

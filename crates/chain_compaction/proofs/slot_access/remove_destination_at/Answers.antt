@@ -1,4 +1,3 @@
--- `remove_destination_at` writes the link, which exists.
 use Rattle.std.specs.Prelude.{None}
 use Rattle.chain_compaction.proofs.DestinationWriteLemmas.{directs}
 use Rattle.chain_compaction.proofs.LinkLoanLemmas.{lent}

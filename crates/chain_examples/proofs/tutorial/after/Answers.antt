@@ -1,4 +1,3 @@
--- The returned pointer has the index that the link names.
 use Rattle.std.proofs.Common.{◌≡◌, ℕ, Option, None, Some, refl, sym, ap, ◌∙◌, subst}
 use Rattle.std.specs.Prelude.{IfSome, is_some}
 use Rattle.chain_laws.specs.Chains.{next_of}
@@ -12,12 +11,10 @@ returns-in-Some-clause-next g c =
     subst (λ o. IfSome o (λ q. IsValid (g.A.ArenaTrait.entry c.args.arena.now) (g.P.PtrKey.key q) × (next_of (g.A.ChainArenaTrait.interlinks c.args.arena.now) (g.P.PtrKey.key c.args.p).0 ≡ Some (g.P.PtrKey.key q).0)))
     (sym c.next.ensures) (was_read g.P.PtrKey.key (g.A.ArenaTrait.entry c.args.arena.now) c.in-Some.link.next _ c.in-Some.ensures.outcome.link.after)
 
--- There is a pointer if there is an index.
 both_some : {P : Type 0} (X : P → Type 0) (number : P → ℕ) (o : Option P) (n : Option ℕ) → IfSome o (λ q. X q × (n ≡ Some (number q))) → (o ≡ None → n ≡ None) → is_some o ≡ is_some n
 both_some X number None n some none = sym (ap is_some (none refl))
 both_some X number (Some q) n some none = sym (ap is_some some.1)
 
--- A next link exists, since the interlinks agree, and so does its entry.
 pub returns-in-Some-clause-some : goal.returns-in-Some-clause-some
 returns-in-Some-clause-some g c =
     let links = g.A.ChainArenaTrait.interlinks c.args.arena.now in

@@ -1,4 +1,3 @@
--- Each call of the closure writes the owner that it captured.
 use Rattle.std.proofs.Common.{rules}
 use Rattle.chain_examples.proofs.OwnerLemmas.{gives_owners}
 use Rattle.chain_examples.proofs.tutorial.set_owners.Goals as goal

@@ -1,4 +1,3 @@
--- A cut undoes a join.
 use Rattle.chain_laws.proofs.ChainLemmas.Frame.{cut_keeps_others, join_makes_no_others}
 use Rattle.chain_laws.proofs.frame.cut_and_join_keep_others.Goals as goal
 

@@ -1,4 +1,3 @@
--- The neighbors of a link are in its chain.
 use Rattle.chain_laws.proofs.ChainLemmas.Frame.{insertion_keeps_others, insertion_makes_no_others, lone_keeps_each}
 use Rattle.chain_laws.proofs.frame.insertion_keeps_others.Goals as goal
 

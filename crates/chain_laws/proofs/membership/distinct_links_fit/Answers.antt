@@ -1,4 +1,3 @@
--- A list without repetition is no longer than one with all its items.
 use Rattle.chain_laws.proofs.WalkLemmas.WalkBack.{length_among}
 use Rattle.chain_laws.proofs.membership.distinct_links_fit.Goals as goal
 

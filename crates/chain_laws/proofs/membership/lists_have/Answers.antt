@@ -1,4 +1,3 @@
--- Proofs by induction on the list.
 use Rattle.chain_laws.proofs.ListLemmas.Members.{IsMember-or_not}
 use Rattle.chain_laws.proofs.ListLemmas.MemberLaws.{member_in_join, member_in_rotation, member_in_middle, member_after_item, has_is_written, member_is_filled}
 use Rattle.chain_laws.proofs.membership.lists_have.Goals as goal

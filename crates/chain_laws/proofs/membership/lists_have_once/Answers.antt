@@ -1,4 +1,3 @@
--- Proofs by induction on the list.
 use Rattle.chain_laws.proofs.ListLemmas.Members.{written_once}
 use Rattle.chain_laws.proofs.WalkLemmas.WalkBack.{length_among}
 use Rattle.chain_laws.proofs.ListLemmas.MemberLaws.{once_in_join, once_in_turn, once_in_middle}

@@ -1,4 +1,3 @@
--- Proofs from the place of a member in the list.
 use Rattle.chain_laws.proofs.ChainLemmas.MemberLaws.{members_name_neighbors, places_in_a_line, places_in_a_ring, lines_end, rings_are_cyclic}
 use Rattle.chain_laws.proofs.membership.members_name_neighbors.Goals as goal
 

@@ -1,4 +1,3 @@
--- The items of a chain are closed under its interlinks.
 use Rattle.chain_laws.proofs.ChainLemmas.MemberLaws.{neighbors_share_a_chain, chains_share_each, rotations_have_the_same, rotations_are_as_long, member_in_all}
 use Rattle.chain_laws.proofs.membership.neighbors_share_a_chain.Goals as goal
 

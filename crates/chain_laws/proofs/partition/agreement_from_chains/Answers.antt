@@ -1,4 +1,3 @@
--- Proofs from the pairs, the same for prev and next.
 use Rattle.chain_laws.proofs.ChainLemmas.NeighborPairs.{agrees_from_pairs, agrees_from_chains}
 use Rattle.chain_laws.proofs.partition.agreement_from_chains.Goals as goal
 

@@ -1,4 +1,3 @@
--- Proofs from the neighbors of each index in the chains.
 use Rattle.chain_laws.proofs.ChainLemmas.NeighborPairs.{chains_by_pairs}
 use Rattle.chain_laws.proofs.partition.chains_by_neighbors.Goals as goal
 

@@ -1,4 +1,3 @@
--- A cyclic chain is split before an index.
 use Rattle.chain_laws.proofs.ChainLemmas.Rotations.{rotations, one_rotated}
 use Rattle.chain_laws.proofs.partition.cycles_rotate.Goals as goal
 

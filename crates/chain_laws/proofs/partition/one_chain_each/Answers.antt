@@ -1,4 +1,3 @@
--- Proofs from the list of all chains, which share no index.
 use Rattle.chain_laws.proofs.ChainLemmas.Partitions.{chain_of_each, no_other_of_each}
 use Rattle.chain_laws.proofs.partition.one_chain_each.Goals as goal
 

@@ -1,4 +1,3 @@
--- Existence by a list built from index 1 on, uniqueness by comparing two sorted lists.
 use Rattle.chain_laws.proofs.ChainLemmas.Partitions.{the_chains, no_others}
 use Rattle.chain_laws.proofs.partition.one_set_of_chains.Goals as goal
 

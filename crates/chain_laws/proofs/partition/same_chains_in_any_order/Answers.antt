@@ -1,4 +1,3 @@
--- Chains that share an index are one chain.
 use Rattle.chain_laws.proofs.ChainLemmas.Partitions.{same_members, same_rotated}
 use Rattle.chain_laws.proofs.partition.same_chains_in_any_order.Goals as goal
 

@@ -1,4 +1,3 @@
--- Proofs from the places in a list.
 use Rattle.chain_laws.proofs.RenamingLemmas.Positions.{arrangement_numbers, places_are_apart}
 use Rattle.chain_laws.proofs.renaming.arrangement_numbers.Goals as goal
 

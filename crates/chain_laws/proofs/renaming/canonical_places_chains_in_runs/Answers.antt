@@ -1,4 +1,3 @@
--- The places in a list of chains are their runs, and both arenas have the chains.
 use Rattle.chain_laws.proofs.RenamingLemmas.ChainRuns.{canonical_arranges, arranges_chains_in_runs, runs_are_renumbered}
 use Rattle.chain_laws.proofs.renaming.canonical_places_chains_in_runs.Goals as goal
 

@@ -1,4 +1,3 @@
--- Proofs from the index of each link around each step.
 use Rattle.chain_laws.proofs.RenamingLemmas.HoleClosing.{gathering_begins, gathering_skips, gathering_continues, gathering_ends}
 use Rattle.chain_laws.proofs.renaming.gathering_renumbers.Goals as goal
 

@@ -1,4 +1,3 @@
--- Proofs from the one set of chains; chains in runs are ascending.
 use Rattle.chain_laws.proofs.RenamingLemmas.LeastIndexOrder.{has_least_index_order, least_index_order_is_ordered, least_index_order_is_canonical, least_index_order_rests, layout_is_idempotent, places_rest}
 use Rattle.chain_laws.proofs.renaming.least_index_order.Goals as goal
 

@@ -1,4 +1,3 @@
--- Proofs from the old index of each link; only neighbors name the moved link.
 use Rattle.chain_laws.proofs.RenamingLemmas.Chains.{renamings_compose}
 use Rattle.chain_laws.proofs.RenamingLemmas.Moves.{move_renames, neighbors_determine_a_move}
 use Rattle.chain_laws.proofs.renaming.move_renames.Goals as goal

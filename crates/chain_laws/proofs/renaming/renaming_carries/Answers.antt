@@ -1,4 +1,3 @@
--- Proofs from the interlinks of each link at its new index.
 use Rattle.chain_laws.proofs.RenamingLemmas.Chains.{renaming_agrees, renaming_carries_pairs, renaming_carries_chains, renaming_carries_all, renaming_is_determined}
 use Rattle.chain_laws.proofs.renaming.renaming_carries.Goals as goal
 

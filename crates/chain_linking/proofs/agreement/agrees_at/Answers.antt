@@ -1,4 +1,3 @@
--- Both directions are checked.
 use Rattle.chain_linking.proofs.agreement.agrees_at.Goals as goal
 
 pub returns-then-next_agrees : goal.returns-then-next_agrees

@@ -1,4 +1,3 @@
--- One step of the loop, and its end: no links are beyond the slots.
 use Rattle.std.proofs.Common.{◌+◌, ◌≤◌, length, refl, ap, subst, arith, below_more}
 use Rattle.std.proofs.lemmas.List.{length-map}
 use Rattle.arena_base.specs.Slots.{entry_of}

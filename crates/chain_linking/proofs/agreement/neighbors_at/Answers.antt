@@ -1,4 +1,3 @@
--- The neighbors of the link at an index, if there is one.
 use Rattle.std.proofs.Common.{ap, sym, ◌∙◌}
 use Rattle.chain_laws.specs.Chains.{prev_in, next_in}
 use Rattle.chain_linking.proofs.ConnectionLemmas.{prev_of-view_after, next_of-view_after}

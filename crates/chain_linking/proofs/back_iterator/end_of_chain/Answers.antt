@@ -1,4 +1,3 @@
--- Each round goes one link on.
 use Rattle.std.specs.Prelude.{length, ◌<◌}
 use Rattle.chain_links.specs.ChainArena.{link_map}
 use Rattle.chain_links.specs.Links.{links_view}
@@ -12,7 +11,6 @@ loop-k-init g c = record {
   on = way_to_end (links_view g.P.Inx.InxKey.packed_number c.args.arena.now) (g.P.Inx.InxKey.number c.args.start) c.requires.agrees c.requires.began;
 }
 
--- The next link is on the way, with fewer steps left.
 goes_on : (g : Over) (c : In-Some g) →
     IsOnToEnd (link_map (links_view g.P.Inx.InxKey.packed_number c.args.arena.now)) (g.P.Inx.InxKey.number c.args.start) (length (links_view g.P.Inx.InxKey.packed_number c.args.arena.now).slots) (g.P.Inx.InxKey.number c.in-Some.k)
     × (steps_on (link_map (links_view g.P.Inx.InxKey.packed_number c.args.arena.now)) (g.P.Inx.InxKey.number c.args.start) (length (links_view g.P.Inx.InxKey.packed_number c.args.arena.now).slots) (g.P.Inx.InxKey.number c.in-Some.k)

@@ -1,4 +1,3 @@
--- The link that was read exists.
 use Rattle.std.proofs.Common.{◌≡◌, ℕ, Some, ap}
 use Rattle.std.specs.Option.{option_map}
 use Rattle.chain_laws.specs.Chains.{HasLink}

@@ -1,4 +1,3 @@
--- Both pointers are valid, and the links have no next and no prev.
 use Rattle.std.proofs.Common.{sym, ap, ◌∙◌}
 use Rattle.std.specs.Prelude.{is_some}
 use Rattle.std.proofs.lemmas.Bool.{false≢true}

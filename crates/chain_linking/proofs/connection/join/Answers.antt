@@ -1,4 +1,3 @@
--- The links are joined if the first is an end and the second a start.
 use Rattle.std.proofs.Common.{ℕ, Some, ap₂, ◌∙◌, sym, refl, subst}
 use Rattle.std.proofs.lemmas.Bool.{false≢true}
 use Rattle.chain_laws.specs.Chains.{HasLink}

@@ -1,4 +1,3 @@
--- A move of a run of one link.
 use Rattle.std.proofs.Common.{ap, ◌∙◌}
 use Rattle.chain_laws.proofs.MoveAfterWriteLemmas.{moved_by_writes}
 use Rattle.chain_links.specs.ChainArena.{link_map, with_link_map}

@@ -1,4 +1,3 @@
--- The index that the link names.
 use Rattle.std.proofs.Common.{refl, sym, ◌∙◌}
 use Rattle.std.proofs.lemmas.Bool.{false≢true}
 use Rattle.chain_linking.proofs.ConnectionLemmas.{next_of-view_after, same_valid}

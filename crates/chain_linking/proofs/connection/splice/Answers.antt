@@ -1,4 +1,3 @@
--- The links before and after the run follow one another, and it comes between two others.
 use Rattle.std.proofs.Common.{◌≡◌, ℕ, Option, Some, ap, ◌∙◌}
 use Rattle.std.specs.Option.{option_map}
 use Rattle.chain_laws.specs.Chains.{HasLink, next_of}
@@ -12,7 +11,6 @@ use Rattle.chain_linking.proofs.connection.splice.Given.{Over}
 use Rattle.chain_linking.proofs.connection.splice.Goals.{After-link_pair}
 use Rattle.chain_linking.proofs.connection.splice.Goals as goal
 
--- The links before and after the run follow one another.
 skips_it : (g : Over) (c : After-link_pair g) → links_view g.P.Inx.InxKey.packed_number c.link_pair.new.arena
     ≡ with_link_map (links_view g.P.Inx.InxKey.packed_number c.args.arena.now) (without_run (link_map (links_view g.P.Inx.InxKey.packed_number c.args.arena.now)) (g.P.Inx.InxKey.number c.args.first) (g.P.Inx.InxKey.number c.args.last))
 skips_it g c =
@@ -21,7 +19,6 @@ skips_it g c =
     skipped_by (links_view packed c.args.arena.now) (links_view packed c.link_pair.new.arena) (number c.args.first) (number c.args.last) (option_map number c.beside-prev.result.0) (option_map number c.beside-next.result.1)
     c.beside-prev.ensures.prev c.beside-next.ensures.next c.link_pair.ensures.links
 
--- A link is still there.
 there : (g : Over) (c : After-link_pair g) (j : ℕ) → HasLink (link_map (links_view g.P.Inx.InxKey.packed_number c.args.arena.now)) j → HasLink (link_map (links_view g.P.Inx.InxKey.packed_number c.link_pair.new.arena)) j
 there g c j valid = still_there (links_view g.P.Inx.InxKey.packed_number c.args.arena.now) (links_view g.P.Inx.InxKey.packed_number c.link_pair.new.arena) (g.P.Inx.InxKey.number c.args.first) (g.P.Inx.InxKey.number c.args.last) (skips_it g c) j valid
 

@@ -1,4 +1,3 @@
--- The borrowed link loses its destination, or there is none.
 use Rattle.std.proofs.Common.{sym, ap, ◌∙◌}
 use Rattle.std.specs.Option.{option_copied_mut}
 use Rattle.chain_links.specs.Links.{links_view, destination_at}

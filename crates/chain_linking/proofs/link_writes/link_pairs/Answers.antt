@@ -1,4 +1,3 @@
--- Two pairs are linked, one after another.
 use Rattle.std.specs.Option.{option_map}
 use Rattle.chain_links.specs.Links.{links_view}
 use Rattle.chain_laws.specs.Joins.{with_neighbors}

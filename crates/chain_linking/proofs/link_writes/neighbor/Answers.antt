@@ -1,4 +1,3 @@
--- The entry at the index, with its current pointer.
 use Rattle.std.proofs.Common.{of_calls, ◌≡◌, Some, refl, sym, ap, ◌∙◌}
 use Rattle.chain_linking.proofs.ConnectionLemmas.{ptr_at-some}
 use Rattle.chain_linking.proofs.NeighborLemmas.{nothing_at}

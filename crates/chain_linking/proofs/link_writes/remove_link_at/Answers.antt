@@ -1,4 +1,3 @@
--- The link is removed, and its former neighbors are linked.
 use Rattle.std.proofs.Common.{of_calls, ◌≡◌, None, Some, refl, sym, ap, ◌∙◌, subst}
 use Rattle.std.specs.Prelude.{is_some}
 use Rattle.std.specs.Option.{option_map}

@@ -1,4 +1,3 @@
--- The index has a link, and the borrowed link is written.
 use Rattle.std.proofs.Common.{refl, sym, ap, ◌∙◌, subst}
 use Rattle.std.specs.Option.{option_map, option_copied_mut}
 use Rattle.chain_laws.specs.Joins.{with_prev}

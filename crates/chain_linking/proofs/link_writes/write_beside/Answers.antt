@@ -1,4 +1,3 @@
--- The first write removes no link.
 use Rattle.std.specs.Option.{option_map}
 use Rattle.chain_laws.specs.Joins.{with_next_at}
 use Rattle.chain_links.specs.Links.{links_view}

@@ -1,4 +1,3 @@
--- The index has a link, and its interlinks are exchanged.
 use Rattle.std.proofs.Common.{refl, sym, ap, ◌∙◌, subst}
 use Rattle.std.specs.Option.{option_copied_mut}
 use Rattle.chain_laws.specs.Reversals.{turned}

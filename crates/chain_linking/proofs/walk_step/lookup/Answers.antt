@@ -1,4 +1,3 @@
--- The pointer to the link at an index is valid.
 use Rattle.std.proofs.Common.{◌≡◌, of_calls, refl, ap, ◌∙◌, sym, subst}
 use Rattle.std.specs.Option.{option_map}
 use Rattle.arena_traits.specs.Arena.{IsValid}

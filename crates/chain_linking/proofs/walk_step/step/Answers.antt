@@ -1,4 +1,3 @@
--- Without a link at the next index, nothing is passed.
 use Rattle.std.specs.Option.{option_map}
 use Rattle.chain_links.specs.Links.{links_view}
 use Rattle.chain_linking.proofs.AdvancerLemmas.{read_none, ends_forward, ends_back}

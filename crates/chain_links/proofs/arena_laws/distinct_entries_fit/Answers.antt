@@ -1,4 +1,3 @@
--- The indexes are among those of the entries.
 use Rattle.chain_links.proofs.OccupiedIndexLemmas.{occupied_fit}
 use Rattle.chain_links.proofs.arena_laws.distinct_entries_fit.Goals as goal
 

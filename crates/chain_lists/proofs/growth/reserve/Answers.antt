@@ -1,4 +1,3 @@
--- The type parameters of the calls are those of the function.
 use Rattle.chain_lists.proofs.growth.reserve.Goals as goal
 
 pub len-requires : goal.len-requires

@@ -1,4 +1,3 @@
--- The forwarded call's contract suffices, so the search is small, and a mutant fails it soon.
 use Rattle.std.proofs.Common.{rules}
 use Rattle.chain_mutants.proofs.own_calls.compress_canonical_counted.Goals as goal
 

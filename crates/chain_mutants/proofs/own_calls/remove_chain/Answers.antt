@@ -1,4 +1,3 @@
--- The contracts of the calls suffice, so the searches are small, and a mutant fails them soon.
 use Rattle.std.proofs.Common.{rules}
 use Rattle.chain_mutants.proofs.own_calls.remove_chain.Goals as goal
 

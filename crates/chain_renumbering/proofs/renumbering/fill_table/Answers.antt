@@ -1,4 +1,3 @@
--- One more move is written.
 use Rattle.std.proofs.Common.{◌∙◌, ap, Some}
 use Rattle.std.specs.Prelude.{slice_set}
 use Rattle.chain_renumbering.proofs.MoveTableLemmas.{note_more}

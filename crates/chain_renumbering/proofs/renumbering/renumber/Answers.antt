@@ -1,4 +1,3 @@
--- The table has an entry for each slot, and holds the moves of the compression.
 use Rattle.std.proofs.Common.{◌≡◌, length, None, ap, ◌∙◌}
 use Rattle.std.proofs.lemmas.List.{length-replicate}
 use Rattle.chain_renumbering.proofs.MappedListLemmas.{length_twice}

@@ -1,4 +1,3 @@
--- The definitions evaluated on small texts.
 use Rattle.std.proofs.Common.{◌≡◌, ℕ, List, [], ◌∷◌, None, Some, ap, refl}
 use Rattle.std.specs.Prelude.{codes}
 use Rattle.std.specs.Option.{option_map, option_zip}
@@ -10,7 +9,6 @@ use Rattle.chain_commands.specs.Transcripts.{AreComplete, by_line_feed, by_the_e
 use Rattle.chain_commands.specs.Words.{index_named, generation_of}
 use Rattle.chain_tool.proofs.tests.definitions.Goals as goal
 
--- A line of which more may come is not complete.
 none_complete : (lines : List (List ℕ)) → AreComplete (codes "add alone 2") (Some (codes "5")) lines → lines ≡ []
 none_complete lines by_line_feed = refl
 none_complete lines (by_the_end ended) = cc

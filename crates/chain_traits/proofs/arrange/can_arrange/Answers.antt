@@ -1,4 +1,3 @@
--- The first pointer is not valid.
 use Rattle.std.proofs.Common.{map, subst}
 use Rattle.chain_links.specs.ChainArena.{CanPutInOrder}
 use Rattle.chain_traits.proofs.LinkOrderLemmas.{arrange_first}

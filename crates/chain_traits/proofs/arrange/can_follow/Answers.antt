@@ -1,4 +1,3 @@
--- Each test goes on with the pointer tested, or the order is refused.
 use Rattle.std.proofs.Common.{◌≡◌, ◌∷◌, map, Bool, true, false, rules}
 use Rattle.arena_traits.specs.Arena.{IsValid}
 use Rattle.chain_links.specs.ChainArena.{CanPutInOrder}

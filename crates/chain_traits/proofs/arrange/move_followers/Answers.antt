@@ -1,4 +1,3 @@
--- Each follower is moved after the one before it.
 use Rattle.std.proofs.Common.{refl, subst}
 use Rattle.std.proofs.lemmas.List.{at_drop_all}
 use Rattle.chain_traits.proofs.LinkOrderLemmas.{at_item, IsPutting, puts_next, put}

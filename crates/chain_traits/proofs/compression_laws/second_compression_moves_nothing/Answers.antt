@@ -1,4 +1,3 @@
--- A second canonical compression orders the links by index.
 use Rattle.chain_traits.proofs.SecondCompressionLemmas.{moves_nothing}
 use Rattle.chain_traits.proofs.compression_laws.second_compression_moves_nothing.Goals as goal
 

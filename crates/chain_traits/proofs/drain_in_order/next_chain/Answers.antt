@@ -1,4 +1,3 @@
--- The advancer returns the link of least index next.
 use Rattle.std.proofs.Common.{None, Some, sym, ap, ◌∙◌, subst}
 use Rattle.std.specs.Prelude.{is_some}
 use Rattle.chain_laws.specs.ChainStart.{IsStart}

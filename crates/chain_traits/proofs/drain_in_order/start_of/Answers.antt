@@ -1,4 +1,3 @@
--- One more step back, a linear chain's start, and a cyclic chain once around.
 use Rattle.std.proofs.Common.{◌≡◌, Bool, true, false, Some, sym, ap, ◌∙◌, arith, of_calls}
 use Rattle.chain_laws.proofs.WalkLemmas.WalkBack.{back_begins, back_continues, back_ends, back_wraps_around}
 use Rattle.chain_laws.proofs.ChainLemmas.LinkedLists.{next_valid}

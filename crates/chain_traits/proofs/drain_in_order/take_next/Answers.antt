@@ -1,4 +1,3 @@
--- The link taken is the next one.
 use Rattle.std.proofs.Common.{sym, subst}
 use Rattle.std.specs.Option.{option_map}
 use Rattle.chain_traits.specs.DrainOrder.{IsNextLink, TakesLink}

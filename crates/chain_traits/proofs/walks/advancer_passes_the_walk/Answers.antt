@@ -1,4 +1,3 @@
--- A walker with as many steps as links passes the walk.
 use Rattle.chain_traits.proofs.GenericArenaLemmas.{entry_valid}
 use Rattle.chain_traits.proofs.AdvancerWalkLemmas.{passes_walk}
 use Rattle.chain_traits.proofs.walks.advancer_passes_the_walk.Goals as goal

@@ -1,4 +1,3 @@
--- Each step visits the link that it passes, until the whole chain is passed.
 use Rattle.std.proofs.Common.{◌≡◌, None, Some, refl, sym, ap, ◌∙◌, subst, of_calls}
 use Rattle.std.specs.Prelude.{is_some, IfSome}
 use Rattle.chain_laws.specs.Walks.{IsWalk, passes_ahead, step_of}

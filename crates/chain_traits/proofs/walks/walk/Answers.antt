@@ -1,4 +1,3 @@
--- The passed pointers are the walk, of which nothing is left.
 use Rattle.std.proofs.Common.{◌≡◌, None, refl, sym, ap, ◌∙◌, subst, arith}
 use Rattle.arena_traits.specs.Arena.{IsValid}
 use Rattle.chain_laws.specs.Walks.{IsWalk, passes_ahead}

@@ -1,4 +1,3 @@
--- Each change keeps each paragraph that it does not remove.
 use Rattle.arena_core.proofs.PointerKindLemmas.{kind_by}
 use Rattle.documents.proofs.HistoryLemmas.{calls_keep}
 use Rattle.documents.proofs.documents.calls_keep_paragraphs.Goals as goal

@@ -1,4 +1,3 @@
--- The contracts state these changes.
 use Rattle.documents.proofs.HistoryLemmas.{done_anyway}
 use Rattle.documents.proofs.documents.calls_make_changes.Goals as goal
 

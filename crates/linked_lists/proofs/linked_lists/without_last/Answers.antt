@@ -1,4 +1,3 @@
--- The last pointer is removed.
 use Rattle.linked_lists.proofs.WalkedLemmas.{left_without_last}
 use Rattle.linked_lists.proofs.linked_lists.without_last.Goals as goal
 

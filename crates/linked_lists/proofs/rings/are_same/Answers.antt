@@ -1,4 +1,3 @@
--- Pointers are determined by their keys.
 use Rattle.std.proofs.Common.{sym, ap, ◌∙◌}
 use Rattle.linked_lists.proofs.rings.are_same.Goals as goal
 

@@ -1,4 +1,3 @@
--- A head of the walk that was not passed would be ahead, where nothing is left.
 use Rattle.std.proofs.Common.{◌≡◌, None, refl, sym, ap, subst}
 use Rattle.chain_laws.specs.Chains.{IsMember}
 use Rattle.chain_laws.specs.Walks.{IsWalk, passes_ahead}

@@ -1,4 +1,3 @@
--- A link of a ring reads its neighbor in the ring.
 use Rattle.std.proofs.Common.{◌∙◌, ap}
 use Rattle.std.specs.Option.{option_map}
 use Rattle.linked_lists.proofs.RingLemmas.{ring_precedes, in_a_ring}

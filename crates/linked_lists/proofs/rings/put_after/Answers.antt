@@ -1,4 +1,3 @@
--- The new link follows `p` in its ring, and is in no other ring.
 use Rattle.std.proofs.Common.{refl}
 use Rattle.chain_laws.specs.Chains.{cyclic}
 use Rattle.arena_traits.specs.Growth.{RefusesOneMore}

@@ -1,4 +1,3 @@
--- The walk from the first item comes to the last one, to `q` or to the head.
 use Rattle.std.proofs.Common.{◌≡◌, None, refl, sym, ap, subst}
 use Rattle.std.specs.Prelude.{IsTrue}
 use Rattle.chain_laws.specs.Walks.{IsWalk, passes_ahead}

@@ -1,4 +1,3 @@
--- The new ring names no other link, so all rings are unchanged.
 use Rattle.std.proofs.Common.{refl}
 use Rattle.chain_laws.specs.Chains.{cyclic}
 use Rattle.chain_laws.specs.declared.insert_kind.InsertKind.TheVariants.{SingleLinkCyclic}

@@ -1,4 +1,3 @@
--- Uses only the facts of the call, so the search is small and a mutant fails early.
 use Rattle.std.proofs.Common.{rules}
 use Rattle.lower_mutants.proofs.layouts.arrange.Goals as goal
 

@@ -1,4 +1,3 @@
--- Uses only the facts of the call, so the search is small and a mutant fails early.
 use Rattle.std.proofs.Common.{rules}
 use Rattle.lower_mutants.proofs.trait_calls.remove_link_no_gen.Goals as goal
 

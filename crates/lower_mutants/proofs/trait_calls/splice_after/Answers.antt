@@ -1,4 +1,3 @@
--- The forwarded call's contract suffices, so the search is small, and a mutant fails it soon.
 use Rattle.std.proofs.Common.{rules}
 use Rattle.lower_mutants.proofs.trait_calls.splice_after.Goals as goal
 

@@ -1,4 +1,3 @@
--- The arena has free capacity, so the insertion succeeds.
 use Rattle.std.proofs.Common.{refl, arith}
 use Rattle.chain_laws.specs.Chains.{cyclic}
 use Rattle.chain_traits.proofs.GenericArenaLemmas.{valid_link}

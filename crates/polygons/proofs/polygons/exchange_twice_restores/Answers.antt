@@ -1,4 +1,3 @@
--- The law follows from the effects of both calls on rings.
 use Rattle.polygons.proofs.RingLemmas.{second_exchange}
 use Rattle.polygons.proofs.polygons.exchange_twice_restores.Goals as goal
 

@@ -1,4 +1,3 @@
--- A corner of the walk that was not passed would be ahead, where nothing is left.
 use Rattle.std.proofs.Common.{◌≡◌, None, sym, ap, subst}
 use Rattle.chain_laws.specs.Chains.{IsMember}
 use Rattle.chain_laws.specs.Walks.{IsWalk, passes_ahead}

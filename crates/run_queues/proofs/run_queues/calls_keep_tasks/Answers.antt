@@ -1,4 +1,3 @@
--- Each change keeps each task that it does not end.
 use Rattle.arena_core.proofs.PointerKindLemmas.{kind_by}
 use Rattle.run_queues.proofs.KeptTaskLemmas.{calls_keep}
 use Rattle.run_queues.proofs.run_queues.calls_keep_tasks.Goals as goal

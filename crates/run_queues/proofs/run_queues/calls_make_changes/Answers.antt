@@ -1,4 +1,3 @@
--- The contracts state these changes.
 use Rattle.std.proofs.Common.{Option}
 use Rattle.std.specs.Prelude.{Bool, IsSome}
 use Rattle.arena_core.specs.Invalidation.{value_within}
@@ -7,7 +6,6 @@ use Rattle.arena_core.specs.declared.invalidation.InvalidationResult.TheVariants
 use Rattle.arena_traits.specs.CallOutcomes.{ReportsOverflow}
 use Rattle.run_queues.proofs.run_queues.calls_make_changes.Goals as goal
 
--- What was done, whether or not the counter wrapped.
 done_anyway : {X Gen : Type 0} (wraps : Gen → Bool) (counter : Option Gen) (invalid : Type 0) (done : X → Type 0) (r : InvalidationResult X) → IsSome (value_within r) → ReportsOverflow wraps counter invalid done r → (x : X) × done x
 done_anyway wraps counter invalid done InvalidPtr some is = absurd (cc)
 done_anyway wraps counter invalid done (Success x) some is = (x, is.1)

@@ -1,4 +1,3 @@
--- The law by the cases of the call.
 use Rattle.arena_core.proofs.PointerKindLemmas.{kind_by}
 use Rattle.run_queues.proofs.FairnessLemmas.{same_or_not}
 use Rattle.run_queues.proofs.StepLemmas.{steps_of}

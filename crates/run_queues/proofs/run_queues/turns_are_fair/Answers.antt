@@ -1,4 +1,3 @@
--- The laws on the steps of one queue.
 use Rattle.run_queues.proofs.FairnessLemmas.{same_or_not}
 use Rattle.run_queues.proofs.TurnLemmas.{stay_ahead, turns_fair}
 use Rattle.run_queues.proofs.run_queues.turns_are_fair.Goals as goal

@@ -1,4 +1,3 @@
--- The queues before the first one with a task have none.
 use Rattle.std.proofs.Common.{◌≡◌, ◌≢◌, ⊎_elim, ℕ, ◌+◌, ◌<◌, List, refl, sym, ap, ◌∙◌, subst, Option, Some, arith}
 use Rattle.std.specs.Prelude.{slice_get}
 use Rattle.std.proofs.lemmas.Bool.{cases_eq}
@@ -12,7 +11,6 @@ use Rattle.schedule.specs.LeastTurns.{AreEmptyBelow}
 use Rattle.schedule.proofs.turns.next_of_first.Goals as goal
 
 module _ {A Gen T : Type 0} {view : A → ArenaView Gen (Entry T)} {entry : A → ℕ → Option (Gen × Entry T)} (state : (a : A) → ArenaState (view a) (entry a)) (interlinks : A → LinkMap) {P : Type 0} (key : P → ℕ × Gen) where
-  -- One more queue has no task.
   below_more : (arena : A) (queues : List P) (i : ℕ) (p : P) → AreEmptyBelow state interlinks key arena queues i → slice_get queues i ≡ Some p → HasNoTask state interlinks arena (key p) → AreEmptyBelow state interlinks key arena queues (i + 1)
   below_more arena queues i p below at none k q less here = ⊎_elim
       (λ same. subst (λ (r : P). HasNoTask state interlinks arena (key r)) (one_some (sym at ∙ (ap (slice_get queues) (sym same) ∙ here))) none)

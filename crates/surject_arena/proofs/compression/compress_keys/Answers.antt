@@ -1,4 +1,3 @@
--- Each call of the closure visits a key, and renames its set.
 use Rattle.std.proofs.Common.{rules, ◌≡◌, refl, subst, ◌∙◌}
 use denote.Param.Always.{always_mut, mut_by}
 use Rattle.surject_arena.specs.Renames.{IsRenamed}

@@ -1,4 +1,3 @@
--- The generation of all values is that of the first one.
 use Rattle.std.proofs.Common.{◌≡◌}
 use Rattle.surject_arena.proofs.MoveLemmas.{first_generation, no_generation}
 use Rattle.surject_arena.proofs.compression.compress_values.Goals as goal

@@ -1,4 +1,3 @@
--- Each step puts the place of one more value into the table.
 use Rattle.std.proofs.Common.{ℕ, map, length, List, sym, ap, ◌∙◌, subst, arith}
 use Rattle.std.proofs.lemmas.List.{length-map}
 use Rattle.arena_traits.specs.Advancers.{ahead}

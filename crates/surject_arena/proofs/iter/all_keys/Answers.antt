@@ -1,4 +1,3 @@
--- All entries are at index 1 or above.
 use Rattle.std.proofs.Common.{ap, ◌∙◌}
 use Rattle.arena_traits.specs.Advancers.{ahead}
 use Rattle.surject_arena.proofs.IterLemmas.{pointers, all_ahead}

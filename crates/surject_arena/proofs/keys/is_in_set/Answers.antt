@@ -1,4 +1,3 @@
--- Pointers are the same exactly if their keys are.
 use Rattle.std.proofs.Common.{Some, refl, sym, ap, ◌∙◌}
 use Rattle.surject_arena.proofs.OptionLemmas.{same_some}
 use Rattle.surject_arena.proofs.SetReadLemmas.{set_stored}

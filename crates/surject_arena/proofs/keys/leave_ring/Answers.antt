@@ -1,4 +1,3 @@
--- The key and the one before it exchange their next links.
 use Rattle.std.proofs.Common.{refl, ◌∙◌}
 use Rattle.surject_arena.proofs.OptionLemmas.{none_some}
 use Rattle.surject_arena.proofs.SplitLemmas.{before_is, left_ring}

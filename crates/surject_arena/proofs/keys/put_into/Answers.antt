@@ -1,4 +1,3 @@
--- The member that is read is the one that is written, in another set.
 use Rattle.std.proofs.Common.{sym, ap, ◌∙◌}
 use Rattle.arena_traits.specs.Entries.{view_with_value}
 use Rattle.surject_arena.specs.Partitions.{member}

@@ -1,4 +1,3 @@
--- Each call of the closure puts a key into the set that it captured.
 use Rattle.std.proofs.Common.{rules}
 use Rattle.surject_arena.proofs.RedirectLemmas.{redirection}
 use Rattle.surject_arena.proofs.keys.redirect.Goals as goal

@@ -1,4 +1,3 @@
--- The value that is read is the one that is written, with another size.
 use Rattle.std.proofs.Common.{sym, ap, ◌∙◌}
 use Rattle.arena_traits.specs.Entries.{view_with_value}
 use Rattle.surject_arena.specs.Partitions.{counted}

@@ -1,4 +1,3 @@
--- Where a size is known there is a value.
 use Rattle.surject_arena.specs.Partitions.{counted}
 use Rattle.surject_arena.proofs.SetReadLemmas.{value_sized}
 use Rattle.surject_arena.proofs.values.size_of.Goals as goal

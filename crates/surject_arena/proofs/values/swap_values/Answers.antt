@@ -1,4 +1,3 @@
--- Each size is written before it comes to the other value's place.
 use Rattle.std.proofs.Common.{ap, ◌∙◌}
 use Rattle.arena_traits.specs.Entries.{view_with_value}
 use Rattle.surject_arena.specs.Partitions.{counted}

@@ -1,4 +1,3 @@
--- A removal of a value that is there returns it.
 use Rattle.std.proofs.Common.{sym, ◌∙◌}
 use Rattle.arena_core.specs.Invalidation.{value_within}
 use Rattle.arena_core.proofs.PointerKindLemmas.{kind_by}

@@ -1,4 +1,3 @@
--- A minus sign, or digits.
 use Rattle.std.proofs.Common.{ℕ, List, Err, subst}
 use Rattle.triangulate.specs.RingTexts.{IsNumeral, ParsesWord}
 use Rattle.triangulate.proofs.RingTextLemmas.{minus_first, minus_refused}

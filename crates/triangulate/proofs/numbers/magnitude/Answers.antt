@@ -1,4 +1,3 @@
--- One digit more.
 use Rattle.std.proofs.Common.{rules, ◌≡◌, ℕ, ◌+◌, ◌-◌, ◌*◌, ◌^◌, ◌<◌, ◌≤◌, length, take, arith, true, false, Bool, List, ap, ◌∙◌, subst, add-one, ◌==◌, pos, to_z, w32}
 use Rattle.std.proofs.lemmas.Grind.{common_steps}
 use Rattle.std.proofs.lemmas.Int.{ints}

@@ -1,4 +1,3 @@
--- The next word.
 use Rattle.std.proofs.Common.{◌≡◌, ◌-◌, inr, take, drop, refl, subst, sym, arith}
 use Rattle.triangulate.proofs.numbers.number_at.Goals as goal
 

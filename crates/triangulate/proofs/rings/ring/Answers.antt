@@ -1,4 +1,3 @@
--- One point more is read.
 use Rattle.std.proofs.Common.{◌≡◌, ℤ, to_z, of_z, inl, inr, sym, subst, arith, rules, w32}
 use Rattle.std.proofs.lemmas.Int.{to_z-of_z}
 use Rattle.std.proofs.lemmas.Result.{err_from_is_err_and}

@@ -1,4 +1,3 @@
--- The first ring is the outline, and the others are the holes.
 use Rattle.std.proofs.Common.{inr, length, ap, subst, rules, arith}
 use Rattle.triangulation.specs.Polygons.{rings_of}
 use Rattle.triangulate.specs.RingTexts.{texts_of, AreRingTexts}

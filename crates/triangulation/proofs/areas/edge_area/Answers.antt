@@ -1,10 +1,8 @@
--- The difference of two products of coordinates.
 use Rattle.std.proofs.Common.{◌≡◌, ℤ, ◌*ℤ◌, ◌-ℤ◌, ap, ◌∙◌, arith, rules, w32}
 use Rattle.std.specs.Int.{w128}
 use Rattle.std.proofs.lemmas.Int.{ints, to_z-of_z, fits_signed_from_abs}
 use Rattle.triangulation.proofs.areas.edge_area.Goals as goal
 
--- Both sides of an operation are replaced.
 both : (f : ℤ → ℤ → ℤ) {a b c d : ℤ} → a ≡ c → b ≡ d → f a b ≡ f c d
 both f {a} {b} {c} {d} first second = ap (λ (z : ℤ). f z b) first ∙ ap (λ (z : ℤ). f c z) second
 

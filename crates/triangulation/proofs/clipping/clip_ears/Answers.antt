@@ -1,4 +1,3 @@
--- One ear is clipped at a time.
 use Rattle.std.proofs.Common.{◌≡◌, ◌-◌, List, length, sym, subst, arith}
 use Rattle.std.proofs.lemmas.List.{length-map}
 use Rattle.chain_lists.specs.Lists.{Item}

@@ -1,4 +1,3 @@
--- An ear is the triangle of three corners in a row.
 use Rattle.std.proofs.Common.{◌≡◌, ◌+◌, pos, ◌<ℤ◌, List, [], ◌∷◌, ◌++◌, length, refl, sym, ap, ◌∙◌, subst, arith}
 use Rattle.std.specs.Prelude.{is_some}
 use Rattle.std.proofs.lemmas.Bool.{false≢true}

@@ -1,4 +1,3 @@
--- The list is turned corner by corner.
 use Rattle.std.proofs.Common.{◌++◌, take, drop, refl, sym, subst, arith}
 use Rattle.triangulation.specs.Triangulations.{BeginsWithEar}
 use Rattle.triangulation.specs.Clippings.{points, HasEar, FindsNoEar}

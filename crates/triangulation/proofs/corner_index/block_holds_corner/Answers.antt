@@ -1,4 +1,3 @@
--- One more corner is clear of the triangle.
 use Rattle.std.proofs.Common.{◌≡◌, ◌<◌, ◌/◌, ℕ, length, map, get_or, min, arith}
 use Rattle.std.proofs.lemmas.Option.{slice_get_read, slice_get-get_or}
 use Rattle.triangulation.specs.CornerIndexes.{IsClearAt}

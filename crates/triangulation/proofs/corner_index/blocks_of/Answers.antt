@@ -1,4 +1,3 @@
--- One more block has its box.
 use Rattle.std.proofs.Common.{◌+◌, length, [], ◌∷◌, ap, ◌∙◌}
 use Rattle.std.proofs.lemmas.List.{length-append}
 use Rattle.std.proofs.lemmas.Option.{slice_get_within}

@@ -1,4 +1,3 @@
--- The corners of one more group are clear of the triangle.
 use Rattle.std.proofs.Common.{◌≡◌, ◌/◌, ℕ, map, refl, sym, ◌∙◌, subst, arith}
 use Rattle.std.proofs.lemmas.Bool.{false≢true}
 use Rattle.triangulation.specs.declared.bounds.BoundingBox.{BoundingBox}

@@ -1,4 +1,3 @@
--- The entry that is read is in the triangle.
 use Rattle.std.proofs.Common.{sym, ap, ◌∙◌, subst}
 use Rattle.std.proofs.lemmas.Bool.{false≢true}
 use Rattle.chain_laws.proofs.InterlinkLemmas.Inverses.{one_some}

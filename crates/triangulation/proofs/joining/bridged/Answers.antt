@@ -1,4 +1,3 @@
--- The ring has four parts.
 use Rattle.std.proofs.Common.{◌≡◌, ◌+◌, ◌-◌, List, ◌++◌, length, take, drop, ap, ◌∙◌, arith}
 use Rattle.std.proofs.lemmas.List.{take_all, length-drop}
 use Rattle.triangulation.specs.declared.points.Point.{Point}

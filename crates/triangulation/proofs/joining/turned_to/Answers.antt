@@ -1,4 +1,3 @@
--- The corners are reversed where they turn the other way.
 use Rattle.std.proofs.Common.{◌≡◌, ℤ, neg_ℤ, to_z, of_z, ap, ◌∙◌, subst, rules}
 use Rattle.std.specs.Prelude.{reverse}
 use Rattle.std.specs.Int.{w128}

@@ -1,4 +1,3 @@
--- The edges of the ring are tested one by one.
 use Rattle.std.proofs.Common.{get_or, refl}
 use Rattle.std.proofs.lemmas.Bool.{both_ways, false≢true}
 use Rattle.triangulation.specs.Polygons.{SegmentsMeet}

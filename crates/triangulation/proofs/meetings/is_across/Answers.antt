@@ -1,4 +1,3 @@
--- The two orientations are around 0.
 use Rattle.std.proofs.Common.{◌≡◌, ℤ, sym, ◌∙◌, subst, rules}
 use Rattle.std.specs.Int.{w128}
 use Rattle.std.proofs.lemmas.Int.{to_z-of_z}

@@ -1,4 +1,3 @@
--- The number of crossings is even outside and odd inside.
 use Rattle.std.proofs.Common.{arith}
 use Rattle.triangulation.proofs.RingPathLemmas.{crossings_more, crossings_end}
 use Rattle.triangulation.proofs.CrossingLemmas.{inside_if_odd, outside_if_even}

@@ -1,4 +1,3 @@
--- Neither range is below the other one.
 use Rattle.std.proofs.Common.{ℤ, IsTrue}
 use Rattle.std.specs.Prelude.{◌↔◌}
 use Rattle.std.proofs.lemmas.Bool.{both_ways, not-true, not_from_false, false_from_ne_true}

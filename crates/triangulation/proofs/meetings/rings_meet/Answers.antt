@@ -1,4 +1,3 @@
--- The edges of the ring are tested one by one. Boxes that do not meet exclude a common point.
 use Rattle.std.proofs.Common.{get_or}
 use Rattle.std.proofs.lemmas.Bool.{both_ways}
 use Rattle.triangulation.specs.Polygons.{MeetsEdge}

@@ -1,4 +1,3 @@
--- Each test decides one part.
 use Rattle.std.proofs.Common.{ℤ, IsTrue, rules}
 use Rattle.std.specs.Prelude.{◌↔◌}
 use Rattle.std.proofs.lemmas.Bool.{both_ways, false≢true}

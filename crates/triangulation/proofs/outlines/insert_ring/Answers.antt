@@ -1,4 +1,3 @@
--- Each corner is inserted after the last one.
 use Rattle.std.proofs.Common.{pos, ◌+◌, List, [], ◌∷◌, ◌++◌, map, take, length, refl, sym, ap, ◌∙◌, subst, arith}
 use Rattle.std.proofs.lemmas.List.{take_more, map-append, length-append, length-map, length-take-le}
 use Rattle.triangulation.specs.declared.points.Point.{Point}

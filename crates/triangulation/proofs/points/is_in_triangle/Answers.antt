@@ -1,4 +1,3 @@
--- A corner is not in the triangle.
 use Rattle.std.proofs.Common.{◌≡◌, ◌&&◌, true, int_eq, sym, ◌∙◌, rules}
 use Rattle.std.proofs.lemmas.Bool.{false≢true}
 use Rattle.triangulation.specs.declared.points.Point.{Point}

@@ -1,4 +1,3 @@
--- The difference of two small products fits.
 use Rattle.std.proofs.Common.{◌≡◌, ℤ, ◌≤◌, ◌^◌, ◌*ℤ◌, ◌-ℤ◌, unsigned_abs, to_z, of_z, ap, ◌∙◌, arith, rules, w32}
 use Rattle.std.specs.Int.{w128}
 use Rattle.std.proofs.lemmas.Int.{ints, to_z-of_z, fits_signed_from_abs}
@@ -7,7 +6,6 @@ use Rattle.triangulation.proofs.points.orientation.Goals as goal
 wide : (z : ℤ) → unsigned_abs z ≤ 2 ^ 32 → to_z w128 (of_z w128 z) ≡ z
 wide z small = to_z-of_z w128 z (fits_signed_from_abs w128 z (omega (arith, small)))
 
--- Both sides of an operation are replaced.
 both : (f : ℤ → ℤ → ℤ) {a b c d : ℤ} → a ≡ c → b ≡ d → f a b ≡ f c d
 both f {a} {b} {c} {d} first second = ap (λ (z : ℤ). f z b) first ∙ ap (λ (z : ℤ). f c z) second
 

@@ -1,4 +1,3 @@
--- The first corner of a hole is inside the other one, or the holes are disjoint.
 use Rattle.std.proofs.Common.{◌<◌, List, length, get_or, sym, subst, arith, below_more}
 use Rattle.std.specs.Prelude.{HoldsAt}
 use Rattle.std.proofs.lemmas.Bool.{both_ways}

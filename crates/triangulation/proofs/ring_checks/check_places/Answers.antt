@@ -1,4 +1,3 @@
--- The first corner of a hole is outside the outline, or one hole more is in place.
 use Rattle.std.proofs.Common.{List, get_or, sym, subst, arith, below_more}
 use Rattle.std.specs.Prelude.{All}
 use Rattle.std.specs.declared.vec.Vec.{Vec}

@@ -1,4 +1,3 @@
--- The corners are listed and form a ring, which is clipped.
 use Rattle.std.proofs.Common.{List, map, sym, subst, arith}
 use Rattle.triangulation.specs.declared.points.Point.{Point}
 use Rattle.triangulation.specs.Clippings.{IsRingOf}

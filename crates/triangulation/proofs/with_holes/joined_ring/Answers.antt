@@ -1,4 +1,3 @@
--- The rings are turned and then joined.
 use Rattle.std.proofs.Common.{List, subst}
 use Rattle.std.specs.Prelude.{Result, Ok, Err, IfOk}
 use Rattle.std.specs.declared.vec.Vec.{Vec}
@@ -8,7 +7,6 @@ use Rattle.triangulation.specs.Polygons.{rings_of, AreJoined, IsJoinedRing}
 use Rattle.triangulation.proofs.JoiningLemmas.{ring_joined}
 use Rattle.triangulation.proofs.with_holes.joined_ring.Goals as goal
 
--- What follows of the value follows of the result.
 if_ok : {X E : Type 0} (P Q : X → Type 0) (r : Result X E) → IfOk r P → ((x : X) → P x → Q x) → IfOk r Q
 if_ok P Q (Ok x) holds then_q = then_q x holds
 if_ok P Q (Err e) holds then_q = tt

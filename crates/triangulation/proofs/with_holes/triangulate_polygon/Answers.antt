@@ -1,4 +1,3 @@
--- The checked rings are a polygon. The triangles of the joined ring are those of the polygon.
 use Rattle.std.proofs.Common.{List, subst, rules}
 use Rattle.std.proofs.lemmas.List.Elements.{All-cons}
 use Rattle.triangulation.specs.declared.points.Point.{Point}

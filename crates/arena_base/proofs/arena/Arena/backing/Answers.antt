@@ -1,4 +1,3 @@
--- The invariant threads the freed list.
 use Rattle.std.proofs.Common.{refl}
 use Rattle.arena_base.proofs.arena.Arena.backing.Goals as goal
 

@@ -1,4 +1,3 @@
--- The slots are like the source's, so its freed list is valid.
 use Rattle.std.proofs.Common.{◌≡◌, Result, Ok, Err, length, min, refl, sym, ap, ◌∙◌, arith, inl, inr}
 use Rattle.std.proofs.lemmas.List.{length-map}
 use Rattle.arena_core.specs.declared.errors.ReallocationError.{ReallocationError}
@@ -12,11 +11,9 @@ use Rattle.arena_base.proofs.SlotCopyLemmas.{has_slots_of, copy_abandoned, on_er
 use Rattle.arena_base.proofs.ArenaGrowthLemmas.{same_reach, stays_within_reach}
 use Rattle.arena_base.proofs.arena.Arena.clone_from_by.Goals as goal
 
--- `Ok` is not an error.
 ok_is_no_error : {A E : Type 0} {a : A} {e : E} → Ok a ≡ Err e → ⊥
 ok_is_no_error is = cc
 
--- The two errors differ.
 errors_differ : {A : Type 0} (r : Result A ReallocationError) → r ≡ Err error.AllocError → r ≡ Err error.BeyondMaxCapacity → ⊥
 errors_differ r is also = cc
 

@@ -1,4 +1,3 @@
--- The values of both slots are exchanged.
 use Rattle.std.proofs.Common.{sym, arith}
 use Rattle.std.specs.Prelude.{slice_get}
 use Rattle.arena_base.specs.Slots.{entry_in}

@@ -1,4 +1,3 @@
--- The entries ahead start or end at a position.
 use Rattle.std.proofs.Common.{◌∙◌, ap}
 use Rattle.arena_traits.specs.Entries.{first_key, last_key}
 use Rattle.arena_base.proofs.EntryRangeLemmas.{ahead_up, ahead_down}

@@ -1,4 +1,3 @@
--- The remaining slots are exactly the entries.
 use Rattle.std.proofs.Common.{rules, ap}
 use Rattle.arena_base.proofs.CompactedArenaLemmas.{gathers}
 use Rattle.arena_base.proofs.arena.Arena.gather.Goals as goal

@@ -1,4 +1,3 @@
--- An arena that is not full has fewer entries than its capacity.
 use Rattle.std.proofs.Common.{◌≡◌, ◌+◌, ◌<◌, false, true, ap, sym, subst, ◌∙◌, refl, inl, arith}
 use Rattle.arena_traits.specs.Arena.{entry_count}
 use Rattle.arena_base.specs.Growths.{GrowsArenaFor}
@@ -22,7 +21,6 @@ returns-else-is_full g c =
       err = tt;
     }
 
--- The arena is full, and its number of entries is known.
 pub returns-then-is_full-clause-outcome : goal.returns-then-is_full-clause-outcome
 returns-then-is_full-clause-outcome g c =
     let may_reach = g.S.SlotStack.may_reach in
@@ -33,7 +31,6 @@ returns-then-is_full-clause-outcome g c =
     let grown : GrowsArenaFor may_reach greatest (entry_count old + 1) old call.result call.new.self = subst (λ n. GrowsArenaFor may_reach greatest (n + 1) old call.result call.new.self) counted call.ensures.outcome in
     grows_for_one_more may_reach greatest old call.result call.new.self (c.is_full.ensures.full.0 c.if-is_full.true) grown
 
--- The type parameters of the calls are those of the function.
 pub is_full-requires : goal.is_full-requires
 is_full-requires g c κs = λ outlives. outlives
 

@@ -1,4 +1,3 @@
--- The stack grows, or reports why not.
 use Rattle.std.proofs.Common.{ℕ, refl, ap, arith}
 use Rattle.arena_core.specs.SlotStack.{IsWithinMaximum}
 use Rattle.arena_base.specs.Slots.{arena_of, freed_of}

@@ -1,4 +1,3 @@
--- The entry is written into the first freed slot, or else a new one.
 use Rattle.std.proofs.Common.{◌<◌, ap, sym, ◌∙◌, arith}
 use Rattle.arena_traits.specs.Arena.{insert_next}
 use Rattle.arena_base.proofs.ArenaModelLemmas.{filled_freed_view, filled_next_view}

@@ -1,4 +1,3 @@
--- The entry is inserted after growth.
 use Rattle.std.proofs.Common.{◌+◌, ap, ◌∙◌, arith}
 use Rattle.arena_traits.specs.Arena.{entry_count, next_index, insert_next}
 use Rattle.arena_base.proofs.ArenaModelLemmas.{inserted_grown, capacity_grown}

@@ -1,4 +1,3 @@
--- An arena that is not full has fewer entries than its capacity.
 use Rattle.std.proofs.Common.{◌≡◌, false, true, sym, ◌∙◌, arith}
 use Rattle.arena_traits.specs.Arena.{entry_count}
 use Rattle.arena_traits.proofs.ArenaViewLemmas.{length-entries}

@@ -1,4 +1,3 @@
--- The entry is at the position, or is the next one after it.
 use Rattle.std.proofs.Common.{◌+◌, ◌<◌, length, Option, None, Some, refl, ap, arith}
 use Rattle.std.specs.Prelude.{IfSome}
 use Rattle.std.proofs.lemmas.List.{length-map}

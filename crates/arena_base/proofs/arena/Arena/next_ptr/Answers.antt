@@ -1,4 +1,3 @@
--- If no slot is free there are as many entries as slots, so the next index exists.
 use Rattle.std.proofs.Common.{◌+◌, ◌∙◌, ap, sym}
 use Rattle.std.proofs.lemmas.List.{length-map}
 use Rattle.arena_base.specs.Slots.{entry_of}

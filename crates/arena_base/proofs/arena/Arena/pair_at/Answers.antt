@@ -1,4 +1,3 @@
--- No entry is at a position past the slots.
 use Rattle.std.proofs.Common.{refl, ap, ◌∙◌, Some}
 use Rattle.arena_base.proofs.SlotLemmas.{slice_index_or-map}
 use Rattle.arena_base.proofs.arena.Arena.pair_at.Goals as goal

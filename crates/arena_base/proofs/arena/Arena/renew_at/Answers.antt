@@ -1,4 +1,3 @@
--- The entry's slot gets the next generation.
 use Rattle.std.proofs.Common.{ap, ◌∙◌}
 use Rattle.std.specs.Prelude.{slice_get}
 use Rattle.arena_base.specs.Slots.{allocated_slot, entry_in}

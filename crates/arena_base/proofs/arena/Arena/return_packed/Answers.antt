@@ -1,4 +1,3 @@
--- Exactly the first slots are the entries.
 use Rattle.std.proofs.Common.{map, sym, subst}
 use Rattle.std.specs.Prelude.{[]}
 use Rattle.arena_base.specs.DetachedSlots.{IsPacked}
@@ -13,7 +12,6 @@ pub truncate-requires : goal.truncate-requires
 truncate-requires g c =
     packed-within c.args.count (g.S.SlotStack.items c.detached.inside.slots) (subst (λ h. IsPacked h.slots c.args.count) (sym c.detached.view_is) c.requires)
 
--- The remaining slots are sound.
 sound : (g : Over) (c : After-pack-self-inside g) → IsSound g.P.Inx.InxKey.packed_number (g.S.SlotStack.items c.truncate.new.self) g.P.Inx.InxKey.greatest c.args.count c.pack-self-inside.result []
 sound g c =
     let items = g.S.SlotStack.items c.detached.inside.slots in

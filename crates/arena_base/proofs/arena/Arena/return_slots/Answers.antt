@@ -1,4 +1,3 @@
--- The free slots are listed again.
 use Rattle.arena_base.proofs.SoundnessLemmas.{closed, walked_all}
 use Rattle.arena_base.proofs.arena.Arena.return_slots.Goals as goal
 

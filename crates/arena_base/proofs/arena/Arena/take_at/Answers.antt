@@ -1,4 +1,3 @@
--- The entry's slot becomes first in the freed list.
 use Rattle.std.proofs.Common.{◌≡◌, ◌-◌, Some, None, sym, ◌∙◌, ap, arith}
 use Rattle.std.specs.Prelude.{slice_get}
 use Rattle.arena_traits.specs.Arena.{entry_at, remove_at}

@@ -1,4 +1,3 @@
--- Only the maximum of the stack changes.
 use Rattle.std.proofs.Common.{ap}
 use Rattle.arena_base.specs.Slots.{arena_of, freed_of}
 use Rattle.arena_base.proofs.SlotCopyLemmas.{on_ok, on_err}

@@ -1,4 +1,3 @@
--- No slot remains.
 use Rattle.std.proofs.Common.{ap, ◌∙◌}
 use Rattle.arena_traits.specs.Arena.{arena_after_clear}
 use Rattle.arena_base.specs.Slots.{freed_of}

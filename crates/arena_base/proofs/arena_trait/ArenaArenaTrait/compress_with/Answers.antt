@@ -1,4 +1,3 @@
--- The entries are compacted, each with the counter that was set before.
 use Rattle.std.proofs.Common.{refl, ap, ◌∙◌, length}
 use Rattle.arena_traits.specs.Entries.{entries}
 use Rattle.arena_traits.specs.Compressions.{counter_after_compression}

@@ -1,4 +1,3 @@
--- The entry of a pointer is in the slot at its position, if the generation is the pointer's.
 use Rattle.std.proofs.Common.{◌≡◌, ◌+◌, ℕ, true, false, Option, Some, None, refl, sym, ap, ◌∙◌, arith}
 use Rattle.std.specs.Prelude.{◌-◌}
 use Rattle.std.proofs.lemmas.Option.{slice_get_past}
@@ -6,11 +5,9 @@ use Rattle.arena_traits.specs.Arena.{IsValid, entry_at}
 use Rattle.arena_base.proofs.SlotLemmas.{entry_at-position}
 use Rattle.arena_base.proofs.arena_trait.ArenaArenaTrait.get.Goals as goal
 
--- No pointer is valid where nothing is stored.
 none_valid : {Gen T : Type 0} (entry : ℕ → Option (Gen × T)) (p : ℕ × Gen) → entry p.0 ≡ None → IsValid entry p → false ≡ true
 none_valid entry p none valid = absurd (let e = sym none ∙ valid.stored in cc)
 
--- A pointer with another generation is not valid.
 other_valid : {Gen T : Type 0} (entry : ℕ → Option (Gen × T)) (p : ℕ × Gen) (e : Gen × T) → entry p.0 ≡ Some e → (e.0 ≡ p.1 → ⊥) → IsValid entry p → false ≡ true
 other_valid entry p e at other valid = absurd (other (let same = sym at ∙ valid.stored in cc))
 

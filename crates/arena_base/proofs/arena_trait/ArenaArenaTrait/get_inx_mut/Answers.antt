@@ -1,4 +1,3 @@
--- The arena gets the value written to the lent slot.
 use Rattle.std.proofs.Common.{refl, sym, ◌∙◌, ap}
 use Rattle.std.specs.Option.{option_map}
 use Rattle.arena_traits.specs.Arena.{with_value}

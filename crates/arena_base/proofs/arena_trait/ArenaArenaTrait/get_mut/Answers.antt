@@ -1,4 +1,3 @@
--- The type parameters of the calls are those of the function.
 use Rattle.arena_base.proofs.arena_trait.ArenaArenaTrait.get_mut.Goals as goal
 
 pub contains-requires : goal.contains-requires

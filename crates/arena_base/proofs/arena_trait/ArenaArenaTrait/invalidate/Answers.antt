@@ -1,4 +1,3 @@
--- The view follows from the arena.
 use Rattle.arena_traits.proofs.ArenaViewLemmas.{renewed_key}
 use Rattle.arena_traits.proofs.CallOutcomeLemmas.{reports_made}
 use Rattle.arena_base.proofs.arena_trait.ArenaArenaTrait.invalidate.Goals as goal
@@ -13,6 +12,5 @@ returns-clause-outcome g c =
     c.renew_at-generation.result.0 c._from_raw.ensures c.inx-2.ensures c.inx.ensures c.renew_at-generation.ensures.next c.renew_at-generation.ensures.after in
     reports_made wraps _ _ counter c.renew_at-generation.result.1 c._from_raw.result c.from_overflow.result c.from_overflow.ensures c.renew_at-generation.ensures.overflow (valid, renewed.0, renewed.1, renewed.2)
 
--- The type parameters of the calls are those of the function.
 pub contains-requires : goal.contains-requires
 contains-requires g c κs = λ outlives. outlives

@@ -1,4 +1,3 @@
--- There are no entries exactly if none are counted.
 use Rattle.std.proofs.Common.{◌≡◌, length, sym, ◌∙◌, ap, eq-eqb, rules}
 use Rattle.arena_traits.specs.Arena.{entry_count}
 use Rattle.arena_traits.proofs.ArenaViewLemmas.{length-entries, no_entries}

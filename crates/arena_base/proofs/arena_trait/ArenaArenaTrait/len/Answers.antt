@@ -1,4 +1,3 @@
--- The entries are as many as counted, and cover the slots with the freed list.
 use Rattle.std.proofs.Common.{◌≤◌, length, map, refl, arith}
 use Rattle.std.proofs.lemmas.List.{length-map}
 use Rattle.arena_base.specs.Slots.{entry_of}

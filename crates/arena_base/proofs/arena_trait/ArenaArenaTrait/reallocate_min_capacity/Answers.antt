@@ -1,4 +1,3 @@
--- Only the capacity grows.
 use Rattle.std.proofs.Common.{ap, arith}
 use Rattle.arena_base.proofs.ArenaGrowthLemmas.{grown_reserves, grown_state, grown_reach}
 use Rattle.arena_base.proofs.arena_trait.ArenaArenaTrait.reallocate_min_capacity.Goals as goal

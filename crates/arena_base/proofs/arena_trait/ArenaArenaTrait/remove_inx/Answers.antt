@@ -1,4 +1,3 @@
--- The view follows from the arena.
 use Rattle.std.proofs.Common.{◌∙◌, Some, ap}
 use Rattle.arena_traits.specs.Entries.{view_of}
 use Rattle.arena_traits.proofs.ArenaViewLemmas.{viewed_removed}

@@ -1,4 +1,3 @@
--- The inherent insertion, as the trait states it.
 use Rattle.arena_base.proofs.InsertedEntryLemmas.{inserts_growing}
 use Rattle.arena_base.proofs.arena_trait.ArenaPlainArenaTrait.insert_reallocating.Goals as goal
 

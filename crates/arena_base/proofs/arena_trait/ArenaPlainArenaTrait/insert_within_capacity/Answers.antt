@@ -1,4 +1,3 @@
--- The inherent insertion, as the trait states it.
 use Rattle.arena_base.proofs.InsertedEntryLemmas.{inserts_within}
 use Rattle.arena_base.proofs.arena_trait.ArenaPlainArenaTrait.insert_within_capacity.Goals as goal
 

@@ -1,4 +1,3 @@
--- Both values are written, or it is one value.
 use Rattle.std.proofs.Common.{refl, sym, ap, ◌∙◌}
 use Rattle.arena_traits.specs.Arena.{entry_at}
 use Rattle.arena_base.proofs.ExchangeLemmas.{exchanged_arena, exchanged_itself}

@@ -1,4 +1,3 @@
--- The detached slots get the value, and the touch is counted.
 use Rattle.std.proofs.Common.{Option, Some, None, refl}
 use Rattle.std.specs.Prelude.{OnSome}
 use Rattle.arena_base.proofs.compactor.CompactorSlotAccess.value_mut.Goals as goal

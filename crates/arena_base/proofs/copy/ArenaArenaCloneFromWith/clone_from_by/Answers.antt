@@ -1,4 +1,3 @@
--- The view of the copy.
 use Rattle.arena_base.proofs.SlotCopyLemmas.{copy_viewed, copy_abandoned_viewed, on_err_either, on_ok, on_ok_both}
 use Rattle.arena_base.proofs.copy.ArenaArenaCloneFromWith.clone_from_by.Goals as goal
 

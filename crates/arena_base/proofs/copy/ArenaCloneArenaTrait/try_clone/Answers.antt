@@ -1,4 +1,3 @@
--- The copy has the slots of the source, and values that equal its values.
 use Rattle.std.proofs.Common.{◌≡◌, ◌↔◌, Err, length, refl, ap, subst}
 use Rattle.arena_core.specs.SlotStack.{IsBeyond}
 use Rattle.arena_core.specs.declared.errors.ReallocationError.TheVariants as refused

@@ -1,4 +1,3 @@
--- The values that the map makes are those that the closure returns.
 use Rattle.arena_base.specs.Copies.{IsCopyCall}
 use Rattle.arena_base.proofs.SlotCopyLemmas.{copy_by, on_err_by, on_ok, surely}
 use Rattle.arena_base.proofs.copy_traits.ArenaCloneFromWith.clone_from_with.Goals as goal

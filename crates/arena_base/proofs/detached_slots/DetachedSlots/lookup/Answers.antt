@@ -1,4 +1,3 @@
--- The entry at an index is in the slot at its position.
 use Rattle.arena_base.proofs.SlotLemmas.{entry_at-position}
 use Rattle.arena_base.proofs.detached_slots.DetachedSlots.lookup.Goals as goal
 

@@ -1,4 +1,3 @@
--- The removed entry is written to the free slot, or to its own.
 use Rattle.std.proofs.Common.{sym, ap, ◌∙◌}
 use Rattle.arena_base.proofs.DetachedSlotLemmas.{detached_moved, brought_there, brought_free}
 use Rattle.arena_base.proofs.SlotLemmas.{slice_index_or-map}

@@ -1,4 +1,3 @@
--- The entry gets the generation, and the two slots are swapped.
 use Rattle.std.proofs.Common.{length, ap, arith}
 use Rattle.std.proofs.lemmas.List.{length-map}
 use Rattle.arena_base.specs.Slots.{entry_of, with_generation_at}

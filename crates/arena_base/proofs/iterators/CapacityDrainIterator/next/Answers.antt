@@ -1,4 +1,3 @@
--- The type parameters of the calls are those of the function.
 use Rattle.arena_base.proofs.iterators.CapacityDrainIterator.next.Goals as goal
 
 pub take_from-requires : goal.take_from-requires

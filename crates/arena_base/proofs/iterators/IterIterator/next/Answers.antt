@@ -1,4 +1,3 @@
--- The type parameters of the calls are those of the function.
 use Rattle.arena_base.proofs.iterators.IterIterator.next.Goals as goal
 
 pub next_from-requires : goal.next_from-requires

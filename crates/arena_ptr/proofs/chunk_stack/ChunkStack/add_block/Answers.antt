@@ -1,4 +1,3 @@
--- An empty block is appended, or none.
 use Rattle.std.specs.Prelude.{is_ok, length}
 use Rattle.std.proofs.Common.{◌∙◌, ap, arith}
 use Rattle.arena_ptr.proofs.ChunkStackLemmas.{more_blocks}

@@ -1,4 +1,3 @@
--- After a refusal the items are in the blocks that were there before.
 use Rattle.std.proofs.Common.{of_calls, ◌≡◌, ◌*◌, ◌≤◌, ap, sym, subst, ◌∙◌, length, length-take, arith}
 use Rattle.arena_ptr.specs.Blocks.{items_in, AreFilled}
 use Rattle.arena_ptr.specs.BlockLaws.{filled_capacity}

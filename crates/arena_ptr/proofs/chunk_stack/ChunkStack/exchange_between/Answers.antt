@@ -1,4 +1,3 @@
--- The items are in two blocks, the first of which is taken out meanwhile.
 use Rattle.std.proofs.Common.{◌≡◌, ◌/◌, slice_index_or, sym, subst, length-set, ◌∙◌}
 use Rattle.arena_ptr.proofs.ChunkStackLemmas.{within}
 use Rattle.arena_ptr.proofs.BlockSwapLemmas.{left_inside, right_inside, put_across, put_fits}

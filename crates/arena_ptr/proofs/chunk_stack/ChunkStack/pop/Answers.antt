@@ -1,4 +1,3 @@
--- The last item is removed from its block.
 use Rattle.std.proofs.Common.{◌-◌, arith, length-set}
 use Rattle.arena_ptr.proofs.ChunkStackLemmas.{within, still_fits, popped}
 use Rattle.arena_ptr.proofs.chunk_stack.ChunkStack.pop.Goals as goal

@@ -1,4 +1,3 @@
--- The slot of the item is found in its block.
 use Rattle.std.proofs.Common.{◌%◌, refl, sym}
 use Rattle.arena_ptr.proofs.ChunkStackLemmas.{within, past, inside_block, item_at, still_fits, written_filled, same_written}
 use Rattle.std.specs.Vec.{with_item}

@@ -1,4 +1,3 @@
--- The item is found in its block.
 use Rattle.std.proofs.Common.{sym}
 use Rattle.arena_ptr.proofs.ChunkStackLemmas.{within, past, inside_block, item_at}
 use Rattle.arena_ptr.proofs.chunk_stack.ChunkStackSlotStack.get.Goals as goal

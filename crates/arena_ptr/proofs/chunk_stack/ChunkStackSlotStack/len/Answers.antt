@@ -1,4 +1,3 @@
--- `len` is the number of items.
 use Rattle.std.proofs.Common.{sym}
 use Rattle.arena_ptr.specs.BlockLaws.{length-items_in}
 use Rattle.arena_ptr.proofs.chunk_stack.ChunkStackSlotStack.len.Goals as goal

@@ -1,4 +1,3 @@
--- The item is appended to its block.
 use Rattle.std.proofs.Common.{◌<◌, ◌*◌, ◌/◌, vec_len, refl, ap, arith, length-set}
 use Rattle.arena_ptr.specs.BlockLaws.{length-items_in}
 use Rattle.arena_ptr.proofs.ChunkStackLemmas.{has_capacity, still_fits, pushed}

@@ -1,4 +1,3 @@
--- Both items are in one block, or in two.
 use Rattle.std.proofs.Common.{◌*◌, slice_index_or, ap, ◌∙◌, refl, arith, length-set}
 use Rattle.arena_ptr.proofs.ChunkStackLemmas.{below, within, found, inside_block, still_fits}
 use Rattle.arena_ptr.proofs.BlockSwapLemmas.{exchanged_in}

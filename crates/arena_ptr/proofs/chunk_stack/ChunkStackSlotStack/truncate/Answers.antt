@@ -1,4 +1,3 @@
--- All items are there at first.
 use Rattle.std.proofs.Common.{refl, sym, take_all, arith}
 use Rattle.arena_ptr.specs.Blocks.{items_in}
 use Rattle.arena_ptr.specs.BlockLaws.{length-items_in}

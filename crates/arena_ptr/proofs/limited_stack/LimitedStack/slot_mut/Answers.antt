@@ -6,7 +6,6 @@ use Rattle.arena_ptr.specs.LimitedStack.{same_within}
 use Rattle.arena_core.proofs.OptionLemmas.{on_some}
 use Rattle.arena_ptr.proofs.limited_stack.LimitedStack.slot_mut.Goals as goal
 
--- The reference reads item `i`.
 reported_at : {X : Type 0} (o : Option (MutBor X)) (xs : List X) (i : ℕ) → IsItemAtMut xs i o → option_copied_mut o ≡ slice_get xs i
 reported_at None xs i item = sym (slice_get_past xs i item.3)
 reported_at (Some x) xs i item = sym (slice_get_read xs _ i x.now refl item.3.0 item.1)

@@ -1,4 +1,3 @@
--- Counting from two never reaches one.
 use Rattle.std.proofs.Common.{◌≡◌, refl, subst}
 use Rattle.std.specs.Prelude.{IfSome}
 use Rattle.arena_ptr.specs.CountedGenerations.{one_is_never_counted}

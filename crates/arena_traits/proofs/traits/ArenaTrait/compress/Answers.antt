@@ -1,4 +1,3 @@
--- The closure leaves each value unchanged.
 use Rattle.std.proofs.Common.{rules}
 use Rattle.arena_traits.proofs.ClosureLemmas.{values_kept}
 use Rattle.arena_traits.proofs.traits.ArenaTrait.compress.Goals as goal

@@ -1,4 +1,3 @@
--- The entry's value is lent, and the new one is written back.
 use Rattle.std.proofs.Common.{Some, ap, sym, ◌∙◌, subst}
 use Rattle.arena_traits.specs.Entries.{view_with_value}
 use Rattle.arena_traits.proofs.traits.ArenaTrait.replace.Goals as goal

@@ -1,4 +1,3 @@
--- A call passes the next link of the advancer, or ends it.
 use Rattle.std.specs.Option.{option_map}
 use Rattle.chain_links.specs.Links.{links_view}
 use Rattle.chain_arena.proofs.BackAdvancerLemmas.{is_passed_back, is_ended_back}

@@ -1,4 +1,3 @@
--- The advancer begins at the pointer's link.
 use Rattle.std.proofs.Common.{refl, ap₂, sym, ◌∙◌}
 use Rattle.std.proofs.lemmas.Bool.{false≢true}
 use Rattle.chain_links.proofs.ArenaInsertionLemmas.{entry_count-links_view}

@@ -1,4 +1,3 @@
--- The walker passes the walk back from the pointer's link.
 use Rattle.chain_linking.proofs.NeighborLemmas.{valid_link}
 use Rattle.chain_arena.proofs.ChainIterLemmas.{back_ahead-walk}
 use Rattle.chain_arena.proofs.chain_arena.ChainArena.advancer_passes_the_walk_back.Goals as goal

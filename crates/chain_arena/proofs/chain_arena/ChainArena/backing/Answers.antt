@@ -1,4 +1,3 @@
--- The arena of links has the same slots.
 use Rattle.std.proofs.Common.{ap, sym, ◌∙◌, map}
 use Rattle.std.specs.Prelude.{min}
 use Rattle.std.specs.Option.{option_map}

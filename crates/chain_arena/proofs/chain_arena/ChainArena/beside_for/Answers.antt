@@ -1,4 +1,3 @@
--- Each kind by what was read of the links that it names.
 use Rattle.std.proofs.Common.{◌≡◌, ◌↔◌, ◌<◌, ℕ, Option, None, Some, refl, ap, sym, ◌∙◌, subst}
 use Rattle.std.specs.Prelude.{IsSome}
 use Rattle.std.specs.Option.{option_map}
@@ -11,7 +10,6 @@ use Rattle.chain_arena.specs.Effects.{Links}
 use Rattle.chain_arena.proofs.NewLinkLemmas.{Found, less_entries, returns_beside, next_found, prev_found, next_is, prev_is}
 use Rattle.chain_arena.proofs.chain_arena.ChainArena.beside_for.Goals as goal
 
--- Two links that a kind names, with what it requires of the first, or of both.
 first_of_two : {X Y A B N : Type 0} → X ↔ (A × N) → Y ↔ B → (X × Y) ↔ (A × B × N)
 first_of_two x y = ((λ h. let a = x.0 h.0 in (a.0, y.0 h.1, a.1)), (λ h. (x.1 (h.0, h.2), y.1 h.1)))
 

@@ -1,4 +1,3 @@
--- The links beside a new one, after a growth if the arena was full.
 use Rattle.std.proofs.Common.{◌+◌, ap, sym, ◌∙◌, refl, subst}
 use Rattle.std.proofs.lemmas.Bool.{false≢true}
 use Rattle.arena_traits.specs.Arena.{entry_count}

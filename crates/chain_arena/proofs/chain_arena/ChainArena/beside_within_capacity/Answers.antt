@@ -1,4 +1,3 @@
--- The links beside a new one, within the capacity.
 use Rattle.std.proofs.Common.{◌≡◌, ◌<◌, ◌+◌, sym, ◌∙◌, refl, subst, arith}
 use Rattle.std.proofs.lemmas.Bool.{false≢true}
 use Rattle.arena_traits.specs.Arena.{entry_count}

@@ -1,4 +1,3 @@
--- The iterator passes the one walk of the pointer.
 use Rattle.std.proofs.Common.{length, sym, ap, ◌∙◌}
 use Rattle.std.proofs.lemmas.List.{length-map}
 use Rattle.chain_laws.proofs.WalkLemmas.Walker.{no_other_walk}

@@ -1,4 +1,3 @@
--- Each link without a mark is in the next chain, whose head is listed and whose links are marked.
 use Rattle.std.proofs.Common.{◌≡◌, ◌<◌, length, replicate, true, false, ap, sym, ◌∙◌, subst, arith}
 use Rattle.std.proofs.lemmas.List.{length-map, with_items_is}
 use Rattle.chain_laws.specs.Chains.{IsWellLinked}

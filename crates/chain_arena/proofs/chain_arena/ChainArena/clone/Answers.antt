@@ -1,4 +1,3 @@
--- The cloned links have the same view as the source's links.
 use Rattle.std.proofs.Common.{◌≡◌, ◌↔◌, Err, length, refl, ap, sym, ◌∙◌, subst, subst₂}
 use Rattle.arena_core.specs.SlotStack.{IsBeyond}
 use Rattle.arena_core.specs.declared.errors.ReallocationError.TheVariants as refused

@@ -1,4 +1,3 @@
--- The links made from the source's links name the same neighbors.
 use Rattle.std.proofs.Common.{◌≡◌, ◌↔◌, ◌≤◌, Err, OnOk, ap, length, subst, sym}
 use Rattle.arena_core.specs.SlotStack.{IsBeyond}
 use Rattle.arena_core.specs.declared.errors.ReallocationError.TheVariants as refused

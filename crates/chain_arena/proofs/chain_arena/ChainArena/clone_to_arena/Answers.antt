@@ -1,4 +1,3 @@
--- What the map of the closure made, the closure returned.
 use Rattle.std.proofs.Common.{length}
 use Rattle.chain_links.specs.Links.{link_view}
 use Rattle.chain_arena.proofs.LinkCopyLemmas.{called_copy, copies_or_lacks}

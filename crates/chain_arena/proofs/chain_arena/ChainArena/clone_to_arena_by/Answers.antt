@@ -1,4 +1,3 @@
--- The arena of links is copied, as contracts see it.
 use Rattle.std.proofs.Common.{◌≡◌, ◌↔◌, ◌≤◌, Err, OnOk, length, refl, subst, sym}
 use Rattle.std.proofs.lemmas.Result.{on_ok_weaker}
 use Rattle.arena_core.specs.SlotStack.{IsBeyond}

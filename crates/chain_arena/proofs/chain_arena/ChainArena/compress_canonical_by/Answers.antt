@@ -1,4 +1,3 @@
--- The links are arranged, each with the counter, which was set before.
 use Rattle.std.proofs.Common.{◌+◌, length, refl, ap, sym, ◌∙◌, subst}
 use Rattle.arena_core.specs.Invalidation.{invalidation_option}
 use Rattle.arena_traits.specs.Entries.{entries}

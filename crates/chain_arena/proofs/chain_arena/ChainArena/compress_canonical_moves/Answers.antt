@@ -1,4 +1,3 @@
--- The capacity suffices for all pairs, so each is listed.
 use Rattle.std.proofs.Common.{arith}
 use Rattle.chain_compaction.proofs.VisitorLemmas.{listed_all}
 use Rattle.chain_arena.proofs.PointerTransferLemmas.{arena_moves_pointers}

@@ -1,4 +1,3 @@
--- The closure has seen what the visitor that calls it has seen.
 use Rattle.chain_compaction.proofs.VisitorLemmas.{reported_to}
 use Rattle.chain_arena.proofs.chain_arena.ChainArena.compress_canonical_with.Goals as goal
 

@@ -1,4 +1,3 @@
--- All links are left from the first index on.
 use Rattle.chain_arena.proofs.LinkDrainLemmas.{all_left}
 use Rattle.chain_arena.proofs.chain_arena.ChainArena.drain.Goals as goal
 

@@ -1,4 +1,3 @@
--- `drain_at` removes the link, and the walk goes on.
 use Rattle.std.proofs.Common.{Some, ap, sym, ◌∙◌}
 use Rattle.std.specs.Prelude.{is_some}
 use Rattle.arena_core.proofs.PointerKindLemmas.{kind_by}

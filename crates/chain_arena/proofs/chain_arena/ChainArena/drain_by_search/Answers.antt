@@ -1,4 +1,3 @@
--- `drain_by_search` removes the first remaining link.
 use Rattle.std.proofs.Common.{◌≡◌, ap, sym, ◌∙◌, subst, arith}
 use Rattle.arena_traits.specs.Arena.{entry_at}
 use Rattle.chain_links.specs.ChainArena.{values_of}

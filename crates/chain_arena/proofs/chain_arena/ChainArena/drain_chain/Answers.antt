@@ -1,4 +1,3 @@
--- The drain begins at the pointer's link, and nothing has changed yet.
 use Rattle.std.proofs.Common.{refl, ◌∙◌}
 use Rattle.chain_arena.proofs.ChainDrainLemmas.{nonzero_index-is, walk_left-valid}
 use Rattle.chain_arena.proofs.chain_arena.ChainArena.drain_chain.Goals as goal

@@ -1,4 +1,3 @@
--- Each step keeps the arena that removing the remaining walk gives.
 use Rattle.std.proofs.Common.{◌≡◌, rules, refl, ◌∙◌}
 use Rattle.chain_arena.specs.Drains.{walk_left, without_each}
 use Rattle.chain_arena.proofs.ChainDrainLemmas.{without_each-step, walk_left-step, without_each-takes, without_each-counts}

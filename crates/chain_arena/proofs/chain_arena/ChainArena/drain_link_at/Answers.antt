@@ -1,4 +1,3 @@
--- The link removed at an index was the first one from it on.
 use Rattle.std.proofs.Common.{◌≡◌, ap, sym, ◌∙◌, subst, arith}
 use Rattle.arena_traits.specs.Arena.{entry_at}
 use Rattle.arena_core.specs.Invalidation.{value_in}

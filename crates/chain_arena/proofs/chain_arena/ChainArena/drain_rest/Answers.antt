@@ -1,4 +1,3 @@
--- Each step keeps the arena that removing the remaining links gives.
 use Rattle.std.proofs.Common.{◌≡◌, rules, refl, ap, map, ◌∙◌, subst}
 use Rattle.std.proofs.lemmas.List.{length-map}
 use Rattle.arena_traits.specs.Entries.{entries, index_of}

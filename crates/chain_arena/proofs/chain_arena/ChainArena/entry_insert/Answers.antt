@@ -1,4 +1,3 @@
--- The entry is beside the links of the kind, after a growth if the arena was full.
 use mathlib.Core.Option.{some}
 use Rattle.std.proofs.Common.{refl, ap, sym}
 use Rattle.arena_core.proofs.PointerKindLemmas.{kind_by}

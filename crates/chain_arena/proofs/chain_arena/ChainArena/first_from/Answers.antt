@@ -1,4 +1,3 @@
--- From a number that is no index, no link is left.
 use Rattle.std.proofs.Common.{ap, sym}
 use Rattle.arena_traits.specs.Entries.{first_key}
 use Rattle.chain_arena.proofs.LinkDrainLemmas.{none_left}

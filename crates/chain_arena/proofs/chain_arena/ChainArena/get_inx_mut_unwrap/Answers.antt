@@ -1,4 +1,3 @@
--- The arena ends as `get_inx_mut` states for an occupied index.
 use Rattle.std.proofs.Common.{refl, sym}
 use Rattle.chain_arena.proofs.chain_arena.ChainArena.get_inx_mut_unwrap.Goals as goal
 

@@ -1,4 +1,3 @@
--- The growth is not needed, or exceeds the greatest index, or is the stack's.
 use Rattle.std.proofs.Common.{arith}
 use Rattle.chain_arena.proofs.TransferGrowthLemmas.{suffices, above_greatest, grows_within}
 use Rattle.chain_arena.proofs.chain_arena.ChainArena.grow_to_hold.Goals as goal

@@ -1,4 +1,3 @@
--- The link is inserted beside those it names, and the links stay well linked.
 use Rattle.std.proofs.Common.{◌≡◌, ◌<◌, ℕ, Option, Some, sym, ◌∙◌, ap, subst, arith}
 use Rattle.std.specs.Option.{option_map}
 use Rattle.chain_laws.specs.Chains.{IsWellLinked}
@@ -17,18 +16,15 @@ use Rattle.chain_arena.proofs.chain_arena.ChainArena.insert_between.Given.{Over}
 use Rattle.chain_arena.proofs.chain_arena.ChainArena.insert_between.Goals.{After-inx, After-write_beside}
 use Rattle.chain_arena.proofs.chain_arena.ChainArena.insert_between.Goals as goal
 
--- The links named by their numbers.
 abbrev before : (g : Over) → After-inx g → Option ℕ
 before g c = option_map g.P.Inx.InxKey.number c.args.beside.0
 
 abbrev after : (g : Over) → After-inx g → Option ℕ
 after g c = option_map g.P.Inx.InxKey.number c.args.beside.1
 
--- The insertion position, in the links of the arena.
 position : (g : Over) (c : After-inx g) → let s = links_view g.P.Inx.InxKey.packed_number c.self.inside.arena in IsInsertPosition (link_map s) (next_index s) (before g c) (after g c)
 position g c = rw (← c.self.view_is) at c.requires.position
 
--- The index of the new link.
 at_next : (g : Over) (c : After-inx g) → g.P.Inx.InxKey.number c.inx.result ≡ next_index (links_view g.P.Inx.InxKey.packed_number c.self.inside.arena)
 at_next g c =
     c.inx.ensures ∙ (ap (λ p. p.0) {y = (next_index c.self.inside.arena, c.self.inside.arena.counter)} c.insert_next-p.ensures.ptr ∙ sym (next_index-links_view g.P.Inx.InxKey.packed_number c.self.inside.arena))
@@ -51,7 +47,6 @@ write_beside-requires-clause-after g c =
     let it = (goal.at.write_beside-requires-clause-after g c).After-inx in
     (both_stored g.P.Inx.InxKey.packed_number c.self.inside.arena c.insert_next-p.new.self (before g it) (after g it) c.new.result c.invariants.ensures.listed c.self.invariant.agree (position g it) c.insert_next-p.ensures.after).1
 
--- The arena after the insertion.
 inserted : (g : Over) (c : After-write_beside g) → let s = links_view g.P.Inx.InxKey.packed_number c.self.inside.arena in
     links_view g.P.Inx.InxKey.packed_number c.write_beside.new.arena ≡ insert_between s c.args.t (option_map g.P.Inx.InxKey.number c.args.beside.0) (option_map g.P.Inx.InxKey.number c.args.beside.1)
 inserted g c =

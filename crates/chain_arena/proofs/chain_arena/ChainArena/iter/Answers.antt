@@ -1,4 +1,3 @@
--- The iterator yields the values of all links.
 use Rattle.std.proofs.Common.{ap, ◌∙◌}
 use Rattle.chain_links.specs.Links.{held_entries}
 use Rattle.chain_compaction.proofs.ValueViewLemmas.{held_entries-all}

@@ -1,4 +1,3 @@
--- The iterator passes the walk from the pointer's link.
 use Rattle.std.proofs.Common.{Option, ℕ, refl, sym, ◌∙◌, subst}
 use Rattle.std.specs.Prelude.{IfSome}
 use Rattle.chain_laws.specs.Chains.{HasLink}

@@ -1,4 +1,3 @@
--- The iterator yields all links, as contracts see them.
 use Rattle.std.proofs.Common.{ap, ◌∙◌}
 use Rattle.chain_links.specs.Links.{entry_views}
 use Rattle.chain_compaction.proofs.ValueViewLemmas.{entry_views-all}

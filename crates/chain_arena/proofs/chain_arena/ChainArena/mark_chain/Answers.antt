@@ -1,4 +1,3 @@
--- The walk passes the links of the chain, which all have marks.
 use Rattle.chain_arena.proofs.ChainHeadLemmas.{all_within}
 use Rattle.chain_arena.proofs.chain_arena.ChainArena.mark_chain.Goals as goal
 

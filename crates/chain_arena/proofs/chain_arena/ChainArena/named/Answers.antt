@@ -1,4 +1,3 @@
--- The link of the pointer, in the links of the arena.
 use Rattle.chain_arena.proofs.NewLinkLemmas.{found_ptr}
 use Rattle.chain_arena.proofs.chain_arena.ChainArena.named.Goals as goal
 

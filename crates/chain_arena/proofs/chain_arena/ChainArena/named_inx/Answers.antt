@@ -1,4 +1,3 @@
--- The link at the index, in the links of the arena.
 use Rattle.std.proofs.Common.{refl}
 use Rattle.chain_arena.proofs.NewLinkLemmas.{found_inx}
 use Rattle.chain_arena.proofs.chain_arena.ChainArena.named_inx.Goals as goal

@@ -1,4 +1,3 @@
--- The starts among all links.
 use Rattle.std.proofs.Common.{ℕ, ◌≤◌, Bool, true, false, List, [], ◌∷◌, length, ap, sym, ◌∙◌, subst, arith}
 use Rattle.std.specs.Prelude.{is_none, if◌then◌else◌}
 use Rattle.chain_links.specs.ChainArena.{LinkView, on_value}
@@ -9,7 +8,6 @@ use Rattle.chain_arena.specs.Starts.{starts_among, AreStarts}
 use Rattle.chain_arena.proofs.StartLemmas.{are_starts}
 use Rattle.chain_arena.proofs.chain_arena.ChainArena.starts.Goals as goal
 
--- There are no more starts than links.
 among_at_most : {Gen T : Type 0} (es : List ((ℕ × Gen) × LinkView T)) → length (starts_among es) ≤ length es
 among_at_most [] = omega arith
 among_at_most {Gen} (e ∷ es) = by (is_none e.1.prev) (among_at_most es)

@@ -1,4 +1,3 @@
--- The link removed at an index is the one that was there.
 use Rattle.std.proofs.Common.{◌≡◌, ap, sym, ◌∙◌, of_calls, Some}
 use Rattle.std.specs.Option.{option_map}
 use Rattle.arena_core.specs.Invalidation.{value_within, invalidation_option}

@@ -1,4 +1,3 @@
--- The links are transferred into the grown and cleared arena.
 use Rattle.std.proofs.Common.{◌≤◌, refl, ap, sym, subst}
 use Rattle.arena_core.specs.SlotStack.{IsBeyond}
 use Rattle.chain_arena.proofs.TransferGrowthLemmas.{emptied_with, refused_alike, transferred_grown, capacity_grown, reach_grown, same_grown}

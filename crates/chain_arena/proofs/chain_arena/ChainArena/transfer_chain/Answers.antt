@@ -1,4 +1,3 @@
--- The chain is moved to the grown target.
 use Rattle.std.proofs.Common.{ℕ, ◌+◌, ◌≤◌, subst}
 use Rattle.arena_core.specs.SlotStack.{IsBeyond}
 use Rattle.arena_traits.specs.Arena.{ReachesCapacity, entry_count}

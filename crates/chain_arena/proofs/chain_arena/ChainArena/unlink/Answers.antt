@@ -1,4 +1,3 @@
--- `unlink` removes the link and links its neighbors.
 use Rattle.std.proofs.Common.{ap}
 use Rattle.arena_core.proofs.PointerKindLemmas.{kind_by}
 use Rattle.chain_links.specs.Links.{links_view}

@@ -1,4 +1,3 @@
--- The new link has the old interlinks and the value that was made.
 use Rattle.std.proofs.Common.{refl, ap, sym, ◌∙◌, subst}
 use Rattle.chain_links.specs.ChainArena.{interlinks_in, link_value}
 use Rattle.chain_links.specs.Links.{link_view}

@@ -1,4 +1,3 @@
--- `clear` leaves no link.
 use Rattle.std.proofs.Common.{ap, sym, ◌∙◌}
 use Rattle.arena_core.specs.Invalidation.{invalidation_option}
 use Rattle.arena_traits.specs.Arena.{overflows_after_clear}

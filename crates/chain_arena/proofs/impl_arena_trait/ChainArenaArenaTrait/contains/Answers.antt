@@ -1,4 +1,3 @@
--- The same pointers are valid as in the arena of links.
 use Rattle.chain_linking.proofs.ConnectionLemmas.{same_valid}
 use Rattle.chain_arena.proofs.impl_arena_trait.ChainArenaArenaTrait.contains.Goals as goal
 

@@ -1,4 +1,3 @@
--- The same pointers are valid as in the arena of links.
 use Rattle.std.proofs.Common.{ap, sym, ◌∙◌}
 use Rattle.arena_traits.specs.Entries.{entries, last_key}
 use Rattle.chain_links.specs.Links.{held_in}

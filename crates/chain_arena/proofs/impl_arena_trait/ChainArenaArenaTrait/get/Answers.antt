@@ -1,4 +1,3 @@
--- `get` returns the value of the link.
 use Rattle.std.proofs.Common.{refl, ap, ◌∙◌}
 use Rattle.std.specs.Option.{option_map}
 use Rattle.chain_links.specs.ChainArena.{on_value}

@@ -1,4 +1,3 @@
--- `get_inx` returns the generation and the value of the link.
 use Rattle.std.proofs.Common.{ap, sym, ◌∙◌, of_calls}
 use Rattle.std.specs.Option.{option_map}
 use Rattle.chain_links.specs.ChainArena.{on_value}

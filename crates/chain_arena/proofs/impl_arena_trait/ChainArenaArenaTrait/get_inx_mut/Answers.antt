@@ -1,4 +1,3 @@
--- A write to the borrowed link writes its value.
 use Rattle.std.proofs.Common.{refl, ap, sym, ◌∙◌, subst}
 use Rattle.std.specs.Option.{option_map}
 use Rattle.chain_links.specs.Links.{held_in, links_view, AreAtRest}

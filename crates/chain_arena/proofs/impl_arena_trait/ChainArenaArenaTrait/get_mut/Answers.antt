@@ -1,4 +1,3 @@
--- `get_mut` lends the value at the index of a valid pointer.
 use Rattle.std.proofs.Common.{refl}
 use Rattle.arena_traits.specs.Arena.{entry_at}
 use Rattle.chain_links.specs.ChainArena.{values_of}

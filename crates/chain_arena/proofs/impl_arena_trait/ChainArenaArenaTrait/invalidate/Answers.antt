@@ -1,4 +1,3 @@
--- The link has a new generation, and stays in its chain.
 use Rattle.arena_core.specs.Invalidation.{value_within}
 use Rattle.arena_core.proofs.PointerKindLemmas.{kind_by}
 use Rattle.chain_arena.proofs.EntryWriteLemmas.{renews, renewed_after, renewed_none, renewed_holds}

@@ -1,4 +1,3 @@
--- There are as many values as links.
 use Rattle.std.proofs.Common.{◌≡◌, ◌↔◌, [], subst}
 use Rattle.std.specs.Prelude.{IsTrue}
 use Rattle.arena_traits.specs.Entries.{entries}

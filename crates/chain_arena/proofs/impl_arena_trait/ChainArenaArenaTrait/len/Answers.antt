@@ -1,4 +1,3 @@
--- The links are well linked, so there is one set of chains.
 use Rattle.std.proofs.Common.{◌≤◌, sym, ◌∙◌, subst, arith}
 use Rattle.arena_traits.specs.Arena.{HasCapacityFor}
 use Rattle.chain_links.specs.Links.{links_view}

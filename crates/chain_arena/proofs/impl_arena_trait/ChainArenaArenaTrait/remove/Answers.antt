@@ -1,4 +1,3 @@
--- `remove` removes the link and links its neighbors.
 use Rattle.std.proofs.Common.{◌≡◌, subst}
 use Rattle.std.specs.Prelude.{OnSome}
 use Rattle.arena_core.specs.Invalidation.{value_within}

@@ -1,4 +1,3 @@
--- `remove_inx` removes the link and links its neighbors.
 use Rattle.std.proofs.Common.{◌≡◌}
 use Rattle.arena_core.proofs.PointerKindLemmas.{kind_by}
 use Rattle.chain_arena.specs.Effects.{IsRemoval}

@@ -1,4 +1,3 @@
--- The advancer passes the same pointers as in the arena of links.
 use Rattle.std.proofs.Common.{subst}
 use Rattle.std.specs.Option.{option_map}
 use Rattle.arena_traits.specs.Entries.{entries}

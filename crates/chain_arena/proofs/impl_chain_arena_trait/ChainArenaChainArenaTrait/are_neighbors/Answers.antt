@@ -1,4 +1,3 @@
--- Both links exist, and the second is the next of the first.
 use Rattle.std.proofs.Common.{◌↔◌, Some, sym, ap, ◌∙◌}
 use Rattle.std.specs.Prelude.{is_some, IsTrue}
 use Rattle.chain_laws.specs.Neighbors.{AreNeighbors}
@@ -10,7 +9,6 @@ use Rattle.chain_arena.proofs.impl_chain_arena_trait.ChainArenaChainArenaTrait.a
 use Rattle.chain_arena.proofs.impl_chain_arena_trait.ChainArenaChainArenaTrait.are_neighbors.Goals.{After-is_index}
 use Rattle.chain_arena.proofs.impl_chain_arena_trait.ChainArenaChainArenaTrait.are_neighbors.Goals as goal
 
--- The same in the links of the arena.
 states : (g : Over) (c : After-is_index g) → let s = links_view g.P.Inx.InxKey.packed_number c.self.inside.arena in
     IsValid (entry s) (g.P.PtrKey.key c.args.q) → IsTrue c.is_index.result
     ↔ (IsValid (entry s) (g.P.PtrKey.key c.args.p) × IsValid (entry s) (g.P.PtrKey.key c.args.q) × AreNeighbors (link_map s) (g.P.PtrKey.key c.args.p).0 (g.P.PtrKey.key c.args.q).0)

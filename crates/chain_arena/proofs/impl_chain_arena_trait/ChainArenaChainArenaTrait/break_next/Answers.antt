@@ -1,4 +1,3 @@
--- Two writes cut the pair, and the laws of cuts state the rest.
 use Rattle.std.proofs.Common.{◌≡◌, ℕ, Some, refl, ap, sym, ◌∙◌, subst}
 use Rattle.chain_laws.specs.Chains.{HasLink, next_of}
 use Rattle.chain_laws.specs.Cuts.{without_pair}
@@ -12,21 +11,18 @@ use Rattle.chain_arena.proofs.impl_chain_arena_trait.ChainArenaChainArenaTrait.b
 use Rattle.chain_arena.proofs.impl_chain_arena_trait.ChainArenaChainArenaTrait.break_next.Goals.{After-write_beside}
 use Rattle.chain_arena.proofs.impl_chain_arena_trait.ChainArenaChainArenaTrait.break_next.Goals as goal
 
--- The links before the cut, and after it.
 abbrev links : (g : Over) → After-write_beside g → Arena g.row.P-Gen.Denot (LinkView g.row.T.Denot)
 links g c = links_view g.P.Inx.InxKey.packed_number c.self.inside.arena
 
 abbrev cut_links : (g : Over) → After-write_beside g → Arena g.row.P-Gen.Denot (LinkView g.row.T.Denot)
 cut_links g c = links_view g.P.Inx.InxKey.packed_number c.write_beside.new.arena
 
--- The neighbor.
 known : (g : Over) (c : After-write_beside g) → next_of (link_map (links g c)) (g.P.PtrKey.key c.args.p).0 ≡ Some (g.P.Inx.InxKey.number c.in-Some.after)
 known g c = sym (c.in-Some.ensures.neighbor (c.in-Some.ensures.some refl))
 
 pair : (g : Over) (c : After-write_beside g) → AreNeighbors (link_map (links g c)) (g.P.PtrKey.key c.args.p).0 (g.P.Inx.InxKey.number c.in-Some.after)
 pair g c = known g c
 
--- The links written are the cut.
 is_cut : (g : Over) (c : After-write_beside g) → cut_links g c ≡ with_link_map (links g c) (without_pair (link_map (links g c)) (g.P.PtrKey.key c.args.p).0 (g.P.Inx.InxKey.number c.in-Some.after))
 is_cut g c = c.write_beside.ensures.links ∙ ap (λ (i : ℕ). with_link_map (links g c) (without_pair (link_map (links g c)) i (g.P.Inx.InxKey.number c.in-Some.after))) c.inx.ensures
 

@@ -1,4 +1,3 @@
--- The call that reports to a closure states the same.
 use Rattle.chain_arena.proofs.impl_chain_arena_trait.ChainArenaChainArenaTrait.compress_canonical.Goals as goal
 
 pub returns : goal.returns

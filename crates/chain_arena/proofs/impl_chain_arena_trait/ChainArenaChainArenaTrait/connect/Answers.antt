@@ -1,4 +1,3 @@
--- The links are joined if possible, and the laws of joins state the rest.
 use Rattle.std.proofs.Common.{◌≡◌, ◌↔◌, ℕ, Option, None, Some, refl, ap, sym, subst}
 use Rattle.std.specs.Prelude.{IsSome, OnSome, IfNone}
 use Rattle.chain_laws.specs.Chains.{IsWellLinked}
@@ -17,7 +16,6 @@ module _ {Gen T P : Type 0} (key : P → ℕ × Gen) (a b : Links Gen T) (p q : 
   agrees_after None may is none agrees = subst (λ (x : Links Gen T). IsWellLinked (link_map x)) (sym none) agrees
   agrees_after (Some x) may is none agrees = joined-agrees a b (key p) (key q) (may.0 refl) is agrees
 
-  -- The links are joined exactly if they may be.
   connects : (o : Option Unit) → IsSome o ↔ CanConnect (entry a) (link_map a) (key p) (key q) → OnSome o (b ≡ with_link_map a (with_join (link_map a) (key p).0 (key q).0)) → ConnectsLinks value_state link_map key a p q o b
   connects None may is = λ can. false≢true (may.1 can)
   connects (Some done) may is =

@@ -1,4 +1,3 @@
--- Two pairs are linked, and the laws of exchanges state the rest.
 use Rattle.std.proofs.Common.{◌≡◌, ℕ, Option, Some, refl, ap, ap₂, sym, ◌∙◌, subst}
 use Rattle.std.specs.Prelude.{is_some}
 use Rattle.std.proofs.lemmas.Bool.{false≢true}
@@ -14,14 +13,12 @@ use Rattle.chain_arena.proofs.impl_chain_arena_trait.ChainArenaChainArenaTrait.e
 use Rattle.chain_arena.proofs.impl_chain_arena_trait.ChainArenaChainArenaTrait.exchange_next.Goals.{After-link_pairs}
 use Rattle.chain_arena.proofs.impl_chain_arena_trait.ChainArenaChainArenaTrait.exchange_next.Goals as goal
 
--- The links before the exchange, and after it.
 abbrev links : (g : Over) → After-link_pairs g → Arena g.row.P-Gen.Denot (LinkView g.row.T.Denot)
 links g c = links_view g.P.Inx.InxKey.packed_number c.self.inside.arena
 
 abbrev exchanged_links : (g : Over) → After-link_pairs g → Arena g.row.P-Gen.Denot (LinkView g.row.T.Denot)
 exchanged_links g c = links_view g.P.Inx.InxKey.packed_number c.link_pairs.new.arena
 
--- The next links of the two.
 after_p : (g : Over) (c : After-link_pairs g) → Some (g.P.Inx.InxKey.number c.in-Some.after_p) ≡ next_of (link_map (links g c)) (g.P.PtrKey.key c.args.p).0
 after_p g c = c.in-Some.ensures.neighbor (c.in-Some.ensures.some refl)
 
@@ -34,7 +31,6 @@ valid_p g c = next_valid (link_map (links g c)) _ _ (sym (after_p g c))
 valid_q : (g : Over) (c : After-link_pairs g) → HasLink (link_map (links g c)) (g.P.PtrKey.key c.args.q).0
 valid_q g c = next_valid (link_map (links g c)) _ _ (sym (after_q g c))
 
--- The links written are the exchange.
 is_exchanged : (g : Over) (c : After-link_pairs g) → exchanged_links g c ≡ with_link_map (links g c) (with_exchange (link_map (links g c)) (g.P.PtrKey.key c.args.p).0 (g.P.PtrKey.key c.args.q).0)
 is_exchanged g c =
     let s = links g c in

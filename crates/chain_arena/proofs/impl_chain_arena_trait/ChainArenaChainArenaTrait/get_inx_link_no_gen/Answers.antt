@@ -1,4 +1,3 @@
--- The link is the one in the arena of links.
 use Rattle.std.proofs.Common.{◌≡◌, ℕ, Option, Some, None, refl, sym, ap, ◌∙◌}
 use Rattle.std.specs.Borrow.{Bor}
 use Rattle.std.specs.Option.{option_map}
@@ -10,7 +9,6 @@ use Rattle.chain_links.proofs.MappedArenaLemmas.{entry_at-with_each}
 use Rattle.chain_arena.proofs.ChainDrainLemmas.{link_at-entry}
 use Rattle.chain_arena.proofs.impl_chain_arena_trait.ChainArenaChainArenaTrait.get_inx_link_no_gen.Goals as goal
 
--- The link borrowed from the arena of links.
 lent : {K Gen T : Type 0} (number : K → Option ℕ) (a : Arena Gen (RawLink K T)) (i : ℕ) (r : Option (Gen × Bor (RawLink K T))) → option_map borrowed_entry r ≡ entry_at a i
     → option_map (borrowed_link number) r ≡ link_at (entry (links_view number a)) (link_map (links_view number a)) i
 lent {K} {Gen} {T} number a i r stored =

@@ -1,4 +1,3 @@
--- The link, with the current pointers to its neighbors.
 use Rattle.std.proofs.Common.{Option, ℕ, refl, subst}
 use Rattle.std.specs.Prelude.{IfSome}
 use Rattle.chain_laws.specs.Chains.{HasLink}

@@ -1,4 +1,3 @@
--- The same pointers are valid, and the link is the one in the arena of links.
 use Rattle.std.proofs.Common.{◌≡◌, ℕ, Option, Some, None, ap, ◌∙◌}
 use Rattle.std.specs.Prelude.{IfSome}
 use Rattle.std.specs.Borrow.{Bor}
@@ -12,7 +11,6 @@ use Rattle.chain_linking.proofs.ConnectionLemmas.{same_valid}
 use Rattle.chain_arena.proofs.ChainDrainLemmas.{link_at-entry}
 use Rattle.chain_arena.proofs.impl_chain_arena_trait.ChainArenaChainArenaTrait.get_link_no_gen.Goals as goal
 
--- The link borrowed from the arena of links.
 lent : {K Gen T : Type 0} (number : K → Option ℕ) (a : Arena Gen (RawLink K T)) (p : ℕ × Gen) (r : Option (Bor (RawLink K T))) → IfSome r (λ link. entry_at a p.0 ≡ Some (p.1, link.now))
     → IfSome r (λ link. link_at (entry (links_view number a)) (link_map (links_view number a)) p.0 ≡ Some (p.1, link_view number link.now))
 lent number a p None stored = tt

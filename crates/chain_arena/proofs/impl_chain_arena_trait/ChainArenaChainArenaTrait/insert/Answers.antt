@@ -1,4 +1,3 @@
--- A link of a kind that may be inserted is, after a growth if full.
 use Rattle.arena_core.proofs.PointerKindLemmas.{kind_by}
 use Rattle.chain_arena.proofs.NewLinkLemmas.{fits_grown, grown_capacity, new_link}
 use Rattle.chain_arena.proofs.impl_chain_arena_trait.ChainArenaChainArenaTrait.insert.Goals as goal

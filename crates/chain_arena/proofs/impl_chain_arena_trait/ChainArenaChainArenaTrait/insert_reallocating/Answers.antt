@@ -1,4 +1,3 @@
--- A link of the kind is inserted beside those found, after a growth if full.
 use Rattle.arena_core.proofs.PointerKindLemmas.{kind_by}
 use Rattle.arena_traits.specs.Growth.{RefusesOneMore}
 use Rattle.chain_links.specs.ChainArena.{value_view}

@@ -1,4 +1,3 @@
--- A link of the kind is inserted beside those found.
 use Rattle.std.proofs.Common.{refl, arith}
 use Rattle.arena_core.proofs.PointerKindLemmas.{kind_by}
 use Rattle.chain_arena.proofs.NewLinkLemmas.{fits_beside, free_capacity, new_link}

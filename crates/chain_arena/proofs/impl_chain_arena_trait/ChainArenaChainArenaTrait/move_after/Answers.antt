@@ -1,4 +1,3 @@
--- The link is moved, and the laws of moves state the rest.
 use Rattle.std.proofs.Common.{ℕ, ap₂, sym, ◌∙◌, subst}
 use Rattle.chain_laws.specs.Chains.{HasLink}
 use Rattle.chain_laws.specs.MoveAfter.{with_move_after}

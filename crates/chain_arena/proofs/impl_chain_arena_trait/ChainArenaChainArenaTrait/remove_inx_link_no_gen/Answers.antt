@@ -1,4 +1,3 @@
--- `remove_inx_link_no_gen` removes the link and links its neighbors.
 use Rattle.chain_arena.proofs.impl_chain_arena_trait.ChainArenaChainArenaTrait.remove_inx_link_no_gen.Goals as goal
 
 pub returns : goal.returns

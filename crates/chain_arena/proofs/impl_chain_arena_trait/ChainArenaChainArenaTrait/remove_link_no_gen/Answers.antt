@@ -1,4 +1,3 @@
--- `remove_link_no_gen` removes the link and links its neighbors.
 use Rattle.std.proofs.Common.{◌≡◌, refl, sym, ◌∙◌, subst}
 use Rattle.std.specs.Prelude.{OnSome}
 use Rattle.std.proofs.lemmas.Bool.{false≢true}

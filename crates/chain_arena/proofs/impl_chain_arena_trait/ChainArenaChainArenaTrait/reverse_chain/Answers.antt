@@ -1,4 +1,3 @@
--- The links of the walk are turned, and the laws of reversals state the rest.
 use Rattle.std.proofs.Common.{refl, ap, sym, ◌∙◌, subst}
 use Rattle.std.proofs.lemmas.Bool.{false≢true}
 use Rattle.chain_laws.specs.Chains.{HasLink}

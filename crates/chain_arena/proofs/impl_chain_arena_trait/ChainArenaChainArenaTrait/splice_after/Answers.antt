@@ -1,4 +1,3 @@
--- The run is moved, and the laws of moves of a run state the rest.
 use Rattle.std.proofs.Common.{sym, subst}
 use Rattle.chain_laws.specs.Chains.{HasLink}
 use Rattle.chain_links.specs.Links.{links_view}

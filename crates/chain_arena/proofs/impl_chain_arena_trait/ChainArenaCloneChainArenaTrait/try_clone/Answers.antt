@@ -1,4 +1,3 @@
--- A clone, as generic code sees it.
 use Rattle.chain_arena.proofs.LinkCopyLemmas.{copies_links, clone_reaches}
 use Rattle.chain_arena.proofs.impl_chain_arena_trait.ChainArenaCloneChainArenaTrait.try_clone.Goals as goal
 

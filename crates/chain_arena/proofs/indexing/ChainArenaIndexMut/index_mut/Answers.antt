@@ -1,4 +1,3 @@
--- The arena ends as `get_mut` states for a valid pointer.
 use Rattle.std.proofs.Common.{refl}
 use Rattle.chain_arena.proofs.indexing.ChainArenaIndexMut.index_mut.Goals as goal
 

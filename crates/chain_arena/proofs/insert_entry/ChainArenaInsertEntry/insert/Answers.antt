@@ -1,4 +1,3 @@
--- The link is inserted at the position that was kept for it.
 use Rattle.std.proofs.Common.{refl, ap, ap₂, ◌∙◌, sym, subst₂}
 use Rattle.chain_laws.specs.Insertions.{IsInsertPosition}
 use Rattle.chain_laws.proofs.InsertionLemmas.Positions.{position_had}

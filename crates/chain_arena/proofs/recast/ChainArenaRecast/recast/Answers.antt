@@ -1,4 +1,3 @@
--- `recast` recasts one value after another, until none is ahead or one refuses.
 use Rattle.std.proofs.Common.{refl}
 use Rattle.chain_arena.proofs.RecastLemmas.{recasting_begins, recast_all, next_valid, fewer_left, recast_next, recast_refused}
 use Rattle.chain_arena.proofs.recast.ChainArenaRecast.recast.Goals as goal

@@ -1,4 +1,3 @@
--- Links with a previous link are passed over.
 use Rattle.std.proofs.Common.{◌≡◌, ℕ, ◌<◌, true, false, List, ◌∷◌, length, refl, ap, sym, ◌∙◌, arith}
 use Rattle.std.specs.Prelude.{not, is_none, if◌then◌else◌}
 use Rattle.chain_links.specs.ChainArena.{LinkView}
@@ -7,11 +6,9 @@ use Rattle.chain_arena.specs.Starts.{starts_among}
 use Rattle.chain_arena.proofs.StartLemmas.{missing}
 use Rattle.chain_arena.proofs.starts.StartsIterator.next.Goals as goal
 
--- Fewer are left after one was passed.
 shorter : {X : Type 0} (x : X) (s t : List X) → s ≡ x ∷ t → length t < length s
 shorter x s t is = let h = ap length is in omega (arith, h)
 
--- The starts among entries, by the first of them.
 first_kept : {Gen T : Type 0} (e : (ℕ × Gen) × LinkView T) (es : List ((ℕ × Gen) × LinkView T)) → is_none e.1.prev ≡ true → starts_among (e ∷ es) ≡ e.0 ∷ starts_among es
 first_kept e es is = ap (λ b. if b then e.0 ∷ starts_among es else starts_among es) is
 

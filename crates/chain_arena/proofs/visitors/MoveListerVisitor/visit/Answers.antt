@@ -1,4 +1,3 @@
--- The pair is pushed, if there is spare capacity.
 use Rattle.std.proofs.Common.{is_ok}
 use Rattle.chain_compaction.proofs.VisitorLemmas.{listed_by_push}
 use Rattle.chain_arena.proofs.visitors.MoveListerVisitor.visit.Goals as goal

@@ -1,4 +1,3 @@
--- The iterator goes on to an existing link or ends.
 use Rattle.std.specs.Option.{option_map}
 use Rattle.chain_links.specs.Links.{link_view, links_view}
 use Rattle.chain_linking.proofs.BackWalkerLemmas.{back_stored}

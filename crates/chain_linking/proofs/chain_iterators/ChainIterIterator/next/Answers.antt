@@ -1,4 +1,3 @@
--- The iterator passes the current link, and goes on to an existing link or ends.
 use Rattle.std.proofs.Common.{of_calls, arith, ◌≡◌, ℕ, ◌<◌, List, ◌∷◌, length, None, Some, ap, ap₂, sym, ◌∙◌}
 use Rattle.std.specs.Prelude.{◌-◌}
 use Rattle.std.specs.Option.{option_map}
@@ -12,7 +11,6 @@ use Rattle.chain_linking.proofs.WalkerLemmas.{behind_stored, nowhere, passes_bac
 use Rattle.chain_linking.proofs.chain_iterators.ChainIterIterator.next.Goals.{then-is_index, else-is_index}
 use Rattle.chain_linking.proofs.chain_iterators.ChainIterIterator.next.Goals as goal
 
--- Fewer links are left after one was passed.
 shorter : {X : Type 0} (x : X) (s t : List X) → s ≡ x ∷ t → length t < length s
 shorter x s t is = let h = ap length is in omega (arith, h)
 

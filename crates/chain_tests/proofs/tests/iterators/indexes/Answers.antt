@@ -1,4 +1,3 @@
--- At first the indexes of all links remain.
 use Rattle.std.proofs.Common.{ap, sym, ◌∙◌, map}
 use Rattle.std.proofs.lemmas.Simd.{map-map}
 use Rattle.arena_core.specs.PackedOptions.{zero_is_none}

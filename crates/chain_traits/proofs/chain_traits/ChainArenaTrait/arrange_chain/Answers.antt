@@ -1,4 +1,3 @@
--- The laws of links put in an order state the chains.
 use Rattle.chain_traits.proofs.LinkOrderLemmas.{is_put}
 use Rattle.chain_traits.proofs.chain_traits.ChainArenaTrait.arrange_chain.Goals as goal
 

@@ -1,4 +1,3 @@
--- The interlinks agree, and indexes are within the index type.
 use Rattle.chain_laws.proofs.ChainLemmas.Partitions.{one_set}
 use Rattle.chain_traits.proofs.GenericArenaLemmas.{links_within}
 use Rattle.chain_traits.proofs.chain_traits.ChainArenaTrait.invariants.Goals as goal

@@ -1,4 +1,3 @@
--- The document is a list.
 use Rattle.documents.proofs.documents.Documents.each_in_one_document.Goals as goal
 
 pub returns : goal.returns

@@ -1,4 +1,3 @@
--- The document is a list.
 use Rattle.documents.proofs.documents.Documents.insert_before.Goals as goal
 
 pub returns-clause-outcome : goal.returns-clause-outcome

@@ -1,4 +1,3 @@
--- The document is a list.
 use Rattle.documents.proofs.documents.Documents.is_range_without.Goals as goal
 
 pub returns : goal.returns

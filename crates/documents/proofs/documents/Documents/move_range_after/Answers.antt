@@ -1,4 +1,3 @@
--- The document is a list.
 use Rattle.documents.proofs.documents.Documents.move_range_after.Goals as goal
 
 pub move_range_after-requires : goal.move_range_after-requires

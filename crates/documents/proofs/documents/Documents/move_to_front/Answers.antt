@@ -1,4 +1,3 @@
--- The document is a list.
 use Rattle.documents.proofs.documents.Documents.move_to_front.Goals as goal
 
 pub returns : goal.returns

@@ -1,4 +1,3 @@
--- The arena is taken out, renumbered and put back.
 use Rattle.chain_renumbering.specs.MoveTables.{new_key_of}
 use Rattle.documents.proofs.RenumberingLemmas.{each_after, renumbers, renumbers_documents, puts_back}
 use Rattle.documents.proofs.documents.Documents.renumber.Goals as goal

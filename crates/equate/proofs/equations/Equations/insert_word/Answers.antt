@@ -1,4 +1,3 @@
--- The table is reordered, and the word inserted into both.
 use Rattle.std.proofs.Common.{◌≡◌, None, refl, sym, ap, subst}
 use Rattle.equate.specs.WordClasses.{pointer_of}
 use Rattle.equate.proofs.CallLemmas.{on_err, reordered_agree, reordered_kept, insertion_agrees, insertion_interns}

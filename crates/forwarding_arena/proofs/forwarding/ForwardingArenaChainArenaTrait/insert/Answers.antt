@@ -1,4 +1,3 @@
--- What the other arena's insertion did, it did in this one.
 use Rattle.chain_traits.proofs.OutcomeLemmas.{growth_to}
 use Rattle.forwarding_arena.proofs.InsertionLemmas.{forwarded}
 use Rattle.forwarding_arena.proofs.forwarding.ForwardingArenaChainArenaTrait.insert.Goals as goal

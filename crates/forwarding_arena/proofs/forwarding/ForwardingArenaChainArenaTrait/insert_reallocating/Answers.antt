@@ -1,4 +1,3 @@
--- What the other arena's insertion did, it did in this one.
 use Rattle.arena_traits.specs.Growth.{RefusesOneMore}
 use Rattle.chain_traits.proofs.OutcomeLemmas.{insertion_to}
 use Rattle.forwarding_arena.proofs.InsertionLemmas.{forwarded}

@@ -1,4 +1,3 @@
--- What the other arena's insertion did, it did in this one.
 use Rattle.forwarding_arena.proofs.InsertionLemmas.{forwarded, within_to}
 use Rattle.forwarding_arena.proofs.forwarding.ForwardingArenaChainArenaTrait.insert_within_capacity.Goals as goal
 

@@ -1,4 +1,3 @@
--- What holds of the removal from the other arena holds of this one.
 use Rattle.std.proofs.Common.{ℕ, Option}
 use Rattle.arena_core.proofs.PointerKindLemmas.{kind_by}
 use Rattle.arena_core.specs.PointerKinds.{PointerKind}

@@ -1,4 +1,3 @@
--- The inner arena's insertion.
 use Rattle.forwarding_arena.proofs.InsertionLemmas.{growing_forwarded}
 use Rattle.forwarding_arena.proofs.forwarding.ForwardingArenaPlainArenaTrait.insert_reallocating.Goals as goal
 

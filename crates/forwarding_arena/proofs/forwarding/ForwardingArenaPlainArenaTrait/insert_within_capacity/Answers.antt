@@ -1,4 +1,3 @@
--- The inner arena's insertion.
 use Rattle.forwarding_arena.proofs.InsertionLemmas.{within_forwarded}
 use Rattle.forwarding_arena.proofs.forwarding.ForwardingArenaPlainArenaTrait.insert_within_capacity.Goals as goal
 

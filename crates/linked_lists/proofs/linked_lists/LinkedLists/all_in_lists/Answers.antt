@@ -1,4 +1,3 @@
--- Each entry is in a list.
 use Rattle.linked_lists.proofs.ListLemmas.{all_in_lists}
 use Rattle.linked_lists.proofs.linked_lists.LinkedLists.all_in_lists.Goals as goal
 

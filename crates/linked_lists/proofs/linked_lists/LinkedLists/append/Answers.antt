@@ -1,4 +1,3 @@
--- The items of the second list are a run that comes after the last link of the first one.
 use Rattle.std.proofs.Common.{refl}
 use Rattle.linked_lists.specs.LinkedLists.{AppendsList}
 use Rattle.linked_lists.proofs.RunLemmas.{appends_nothing, appends_run, each_appended}

@@ -1,4 +1,3 @@
--- The last link is found by the handle.
 use Rattle.linked_lists.proofs.HandleLemmas.{handle_found, handle_there, ends_list_of}
 use Rattle.linked_lists.proofs.linked_lists.LinkedLists.end_of_list_of.Goals as goal
 

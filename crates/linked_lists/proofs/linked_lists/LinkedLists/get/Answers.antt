@@ -1,4 +1,3 @@
--- Without an entry there is no item.
 use Rattle.linked_lists.proofs.ListLemmas.{item_valid}
 use Rattle.linked_lists.proofs.linked_lists.LinkedLists.get.Goals as goal
 

@@ -1,4 +1,3 @@
--- The value is written, and the item keeps its position.
 use Rattle.std.proofs.Common.{Some, refl, ◌∙◌, ap}
 use Rattle.linked_lists.specs.declared.entry.Entry.TheVariants as entries
 use Rattle.linked_lists.specs.LinkedLists.{HasItem}

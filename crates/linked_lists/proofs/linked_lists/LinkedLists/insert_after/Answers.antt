@@ -1,4 +1,3 @@
--- The new item follows the item of `p`.
 use Rattle.std.proofs.Common.{refl}
 use Rattle.linked_lists.specs.LinkedLists.{GrowsAfter}
 use Rattle.linked_lists.proofs.InsertionLemmas.{inserts_after, each_behind, each_added}

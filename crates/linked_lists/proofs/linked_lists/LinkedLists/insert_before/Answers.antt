@@ -1,4 +1,3 @@
--- The new item precedes the item of `p`.
 use Rattle.std.proofs.Common.{refl}
 use Rattle.linked_lists.specs.LinkedLists.{GrowsBefore}
 use Rattle.linked_lists.proofs.InsertionLemmas.{inserts_before, each_ahead, each_added}

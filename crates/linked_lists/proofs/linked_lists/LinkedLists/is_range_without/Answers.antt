@@ -1,4 +1,3 @@
--- The range is tested along the walk from its first item.
 use Rattle.std.proofs.Common.{refl}
 use Rattle.linked_lists.proofs.RangeMoveLemmas.{range_starts}
 use Rattle.linked_lists.proofs.linked_lists.LinkedLists.is_range_without.Goals as goal

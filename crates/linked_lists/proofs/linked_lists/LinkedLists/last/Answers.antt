@@ -1,4 +1,3 @@
--- The prev link is read, if it is an item.
 use Rattle.std.proofs.Common.{refl}
 use Rattle.linked_lists.proofs.ReadingLemmas.{reads_last}
 use Rattle.linked_lists.proofs.linked_lists.LinkedLists.last.Goals as goal

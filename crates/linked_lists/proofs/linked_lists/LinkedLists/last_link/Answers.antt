@@ -1,4 +1,3 @@
--- The last link of a list is the one before its head.
 use Rattle.linked_lists.proofs.ReadingLemmas.{ends_list, ends_valid, has_end}
 use Rattle.linked_lists.proofs.linked_lists.LinkedLists.last_link.Goals as goal
 

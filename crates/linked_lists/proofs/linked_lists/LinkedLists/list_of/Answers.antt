@@ -1,4 +1,3 @@
--- The head on the walk from the item is the handle of its list.
 use Rattle.std.proofs.Common.{refl}
 use Rattle.linked_lists.proofs.HandleLemmas.{reads_handle, no_handle}
 use Rattle.linked_lists.proofs.linked_lists.LinkedLists.list_of.Goals as goal

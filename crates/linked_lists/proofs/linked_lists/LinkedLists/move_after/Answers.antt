@@ -1,4 +1,3 @@
--- The item comes after the other one.
 use Rattle.std.proofs.Common.{refl}
 use Rattle.linked_lists.specs.LinkedLists.{MovesAfterItem}
 use Rattle.linked_lists.proofs.MoveLemmas.{moves_after_item, each_after_item}

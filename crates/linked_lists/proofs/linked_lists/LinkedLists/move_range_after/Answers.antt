@@ -1,4 +1,3 @@
--- The range comes after the item.
 use Rattle.std.proofs.Common.{refl}
 use Rattle.linked_lists.specs.LinkedLists.{MovesRangeAfter}
 use Rattle.linked_lists.proofs.RangeMoveLemmas.{moves_range_after, each_range_after}

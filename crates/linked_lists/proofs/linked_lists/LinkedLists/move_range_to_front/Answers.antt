@@ -1,4 +1,3 @@
--- The range comes after the head.
 use Rattle.std.proofs.Common.{refl}
 use Rattle.linked_lists.specs.LinkedLists.{MovesRangeToFront}
 use Rattle.linked_lists.proofs.RangeMoveLemmas.{moves_range_to_front, each_range_to_front}

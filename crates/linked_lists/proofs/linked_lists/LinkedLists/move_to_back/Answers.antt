@@ -1,4 +1,3 @@
--- The item comes after the last link.
 use Rattle.std.proofs.Common.{refl, subst}
 use Rattle.linked_lists.specs.LinkedLists.{MovesToBack}
 use Rattle.linked_lists.specs.RingCalls.{EndsList}

@@ -1,4 +1,3 @@
--- The item comes after the head.
 use Rattle.std.proofs.Common.{refl}
 use Rattle.linked_lists.specs.LinkedLists.{MovesToFront}
 use Rattle.linked_lists.proofs.MoveLemmas.{moves_to_front, each_to_front}

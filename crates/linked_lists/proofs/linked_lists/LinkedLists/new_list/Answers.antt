@@ -1,4 +1,3 @@
--- The new ring has the head alone.
 use Rattle.linked_lists.proofs.ChangeLemmas.{starts_list, each_list_started}
 use Rattle.linked_lists.proofs.linked_lists.LinkedLists.new_list.Goals as goal
 

@@ -1,4 +1,3 @@
--- The next link is read, if it is an item.
 use Rattle.std.proofs.Common.{refl}
 use Rattle.linked_lists.proofs.ReadingLemmas.{reads_next, no_next}
 use Rattle.linked_lists.proofs.linked_lists.LinkedLists.next.Goals as goal

@@ -1,4 +1,3 @@
--- The prev link is read, if it is an item.
 use Rattle.std.proofs.Common.{refl}
 use Rattle.linked_lists.proofs.ReadingLemmas.{reads_prev, no_prev}
 use Rattle.linked_lists.proofs.linked_lists.LinkedLists.prev.Goals as goal

@@ -1,4 +1,3 @@
--- The new item precedes the head.
 use Rattle.std.proofs.Common.{refl}
 use Rattle.linked_lists.specs.LinkedLists.{GrowsAtEnd}
 use Rattle.linked_lists.proofs.InsertionLemmas.{pushes_back, each_at_end, each_added}

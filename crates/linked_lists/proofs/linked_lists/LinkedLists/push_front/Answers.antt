@@ -1,4 +1,3 @@
--- The new item follows the head.
 use Rattle.std.proofs.Common.{refl}
 use Rattle.linked_lists.specs.LinkedLists.{GrowsAtStart}
 use Rattle.linked_lists.proofs.InsertionLemmas.{pushes_front, each_at_start, each_added}

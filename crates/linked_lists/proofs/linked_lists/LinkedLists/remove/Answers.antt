@@ -1,4 +1,3 @@
--- The item leaves its ring.
 use Rattle.std.proofs.Common.{refl}
 use Rattle.arena_core.proofs.PointerKindLemmas.{kind_by}
 use Rattle.arena_core.specs.Invalidation.{value_within}

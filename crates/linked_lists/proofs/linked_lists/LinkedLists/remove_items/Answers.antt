@@ -1,4 +1,3 @@
--- Each removal leaves one item less, until there is none.
 use Rattle.std.proofs.Common.{arith, ap}
 use Rattle.arena_core.proofs.PointerKindLemmas.{kind_by}
 use Rattle.linked_lists.proofs.ListRemovalLemmas.{all_left, removal_goes_on, fewer_left, all_removed}

@@ -1,4 +1,3 @@
--- The head is removed after its items.
 use Rattle.std.proofs.Common.{[], refl, ap}
 use Rattle.arena_core.proofs.PointerKindLemmas.{kind_by}
 use Rattle.arena_core.specs.Invalidation.{value_within}

@@ -1,4 +1,3 @@
--- The item has the new value.
 use Rattle.std.proofs.Common.{refl}
 use Rattle.linked_lists.specs.LinkedLists.{IsItem, ReplacesItem}
 use Rattle.linked_lists.specs.RingCalls.{value_in}

@@ -1,4 +1,3 @@
--- The given arena has lists, and so has the former one.
 use Rattle.std.proofs.Common.{sym, subst}
 use Rattle.linked_lists.specs.LinkedLists.{EachInList}
 use Rattle.linked_lists.proofs.linked_lists.LinkedLists.replace_arena.Goals as goal

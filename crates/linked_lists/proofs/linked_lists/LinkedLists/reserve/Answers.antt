@@ -1,4 +1,3 @@
--- A growth keeps the entries and links.
 use Rattle.linked_lists.proofs.ChangeLemmas.{each_viewed}
 use Rattle.linked_lists.proofs.linked_lists.LinkedLists.reserve.Goals as goal
 

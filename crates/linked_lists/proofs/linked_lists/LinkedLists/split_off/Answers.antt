@@ -1,4 +1,3 @@
--- The items from `p` on are a run that comes after the new head.
 use Rattle.std.proofs.Common.{Some, Ok, refl}
 use Rattle.linked_lists.specs.LinkedLists.{SplitsOff}
 use Rattle.linked_lists.proofs.ListLemmas.{each_of_all}

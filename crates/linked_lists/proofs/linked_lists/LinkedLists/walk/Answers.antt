@@ -1,4 +1,3 @@
--- The walk from the first item passes the items, and then the head.
 use Rattle.std.proofs.Common.{refl}
 use Rattle.linked_lists.proofs.WalkedLemmas.{lists_items, first_is_valid, some_or_none}
 use Rattle.linked_lists.proofs.linked_lists.LinkedLists.walk.Goals as goal

@@ -1,4 +1,3 @@
--- Each link has a next one, so it is in a ring.
 use Rattle.polygons.proofs.RingLemmas.{all_in_rings}
 use Rattle.polygons.proofs.polygons.Polygons.all_in_polygons.Goals as goal
 

@@ -1,4 +1,3 @@
--- Both corners have a next one, so the exchange is possible.
 use Rattle.chain_traits.proofs.GenericArenaLemmas.{some_valid}
 use Rattle.polygons.proofs.RingLemmas.{exchanges_successors}
 use Rattle.polygons.proofs.polygons.Polygons.exchange.Goals as goal
@@ -10,6 +9,5 @@ returns g c =
     (some_valid (g.A.ChainArenaTrait.interlinks a) (g.A.ArenaTrait.entry a) (g.A.ArenaTrait.view a).entries (g.met.A.ChainArenaTrait.links_are_entries a) (g.A.ArenaTrait.state a).finds)
     c.agrees.ensures c.self.invariant c.exchange_next.result c.exchange_next.ensures.outcome c.exchange_next.ensures.none)
 
--- The type parameters of the calls are those of the function.
 pub exchange_next-requires : goal.exchange_next-requires
 exchange_next-requires g c κs = λ outlives. outlives

@@ -1,4 +1,3 @@
--- The arena reads the corner.
 use Rattle.polygons.proofs.polygons.Polygons.get.Goals as goal
 
 pub returns : goal.returns

@@ -1,4 +1,3 @@
--- The value is written, and the corner keeps its position.
 use Rattle.std.proofs.Common.{refl, sym, subst, ◌∙◌}
 use Rattle.polygons.specs.Rings.{AllCyclic}
 use Rattle.chain_laws.specs.Chains.{cyclic}

@@ -1,4 +1,3 @@
--- The link after a corner is the next one in its ring.
 use Rattle.std.proofs.Common.{◌∙◌, ap, refl}
 use Rattle.std.specs.Option.{option_map}
 use Rattle.polygons.proofs.RingLemmas.{ring_continues, in_a_ring}

@@ -1,4 +1,3 @@
--- Two valid corners are read, unless they are the same.
 use Rattle.std.proofs.Common.{refl, sym, ◌∙◌}
 use Rattle.std.proofs.lemmas.Bool.{false≢true}
 use Rattle.polygons.proofs.polygons.Polygons.points.Goals as goal

@@ -1,4 +1,3 @@
--- The link before a corner is the previous one in its ring.
 use Rattle.std.proofs.Common.{◌∙◌, ap, refl}
 use Rattle.std.specs.Option.{option_map}
 use Rattle.polygons.proofs.RingLemmas.{ring_precedes, in_a_ring}

@@ -1,4 +1,3 @@
--- The removed link leaves its ring.
 use Rattle.std.proofs.Common.{refl, sym, subst}
 use Rattle.arena_core.proofs.PointerKindLemmas.{kind_by}
 use Rattle.arena_core.specs.Invalidation.{value_within}

@@ -1,4 +1,3 @@
--- Each removal goes on with the next corner, until there is none.
 use Rattle.std.proofs.Common.{arith}
 use Rattle.arena_core.proofs.PointerKindLemmas.{kind_by}
 use Rattle.polygons.proofs.RingRemovalLemmas.{all_left, removal_goes_on, all_removed}

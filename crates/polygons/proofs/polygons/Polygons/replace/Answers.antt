@@ -1,4 +1,3 @@
--- The value of the corner's link is replaced.
 use Rattle.polygons.proofs.RingLemmas.{replaces_point}
 use Rattle.polygons.proofs.polygons.Polygons.replace.Goals as goal
 

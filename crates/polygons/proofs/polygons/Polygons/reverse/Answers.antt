@@ -1,4 +1,3 @@
--- The chain of the corner is reversed, and stays cyclic.
 use Rattle.std.proofs.Common.{sym, ap, subst, ◌∙◌}
 use Rattle.std.specs.Prelude.{is_some}
 use Rattle.chain_traits.proofs.GenericArenaLemmas.{some_valid, valid_some, links_within}

@@ -1,4 +1,3 @@
--- The corners that the walk passes are those of the ring.
 use Rattle.chain_traits.proofs.GenericArenaLemmas.{valid_some}
 use Rattle.polygons.proofs.WalkedRingLemmas.{passed_in_ring}
 use Rattle.polygons.proofs.polygons.Polygons.same_polygon.Goals as goal

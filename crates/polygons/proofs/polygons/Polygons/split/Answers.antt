@@ -1,4 +1,3 @@
--- After reserving for two, both corners are still stored and linked.
 use Rattle.std.proofs.Common.{◌≡◌, List, ap, refl, arith}
 use Rattle.arena_traits.specs.Entries.{count}
 use Rattle.chain_traits.proofs.GenericRemovalLemmas.{same_entry}
@@ -36,7 +35,6 @@ returns-in_ok-reserve-in-Some g c =
 pub split_within_capacity-requires-clause-capacity : goal.split_within_capacity-requires-clause-capacity
 split_within_capacity-requires-clause-capacity g c = omega (arith, ap count c.in_ok-reserve-in-Some.ensures.outcome.0, c.in_ok-reserve-in-Some.ensures.outcome.1.0.fits)
 
--- The growth before a split keeps the entries.
 still : (g : Over) (c : After-split_within_capacity-arg-1 g) → g.A.ArenaTrait.entry c.reserve.new.self ≡ g.A.ArenaTrait.entry c.args.self.now
 still g c = same_entry g.A.ArenaTrait.state c.args.self.now c.reserve.new.self (ap (λ s. s.entries) c.in_ok-reserve-in-Some.ensures.outcome.0)
 

@@ -1,4 +1,3 @@
--- Copies are inserted beside `u` and `v`, then the successors of `v` and of `u`'s copy exchanged.
 use Rattle.std.proofs.Common.{◌+◌, ◌∙◌, ap, ◌∷◌, [], arith}
 use Rattle.arena_traits.specs.Entries.{count}
 use Rattle.chain_lists.proofs.ItemListLemmas.{stored_kept}

@@ -1,4 +1,3 @@
--- A walk along a cyclic chain passes the corners of its ring.
 use Rattle.polygons.proofs.WalkedRingLemmas.{walked}
 use Rattle.polygons.proofs.polygons.Polygons.walk.Goals as goal
 

@@ -1,4 +1,3 @@
--- The law of the lists.
 use Rattle.run_queues.proofs.run_queues.RunQueues.each_in_one_queue.Goals as goal
 
 pub returns : goal.returns

@@ -1,4 +1,3 @@
--- The task is moved.
 use Rattle.run_queues.proofs.run_queues.RunQueues.move_to.Goals as goal
 
 pub returns : goal.returns

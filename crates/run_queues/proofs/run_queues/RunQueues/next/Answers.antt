@@ -1,4 +1,3 @@
--- A turn is a move within the queue.
 use Rattle.run_queues.proofs.FairnessLemmas.{same_or_not}
 use Rattle.run_queues.proofs.WakingLemmas.{takes_turn}
 use Rattle.run_queues.proofs.run_queues.RunQueues.next.Goals as goal

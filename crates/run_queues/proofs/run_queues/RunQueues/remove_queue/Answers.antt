@@ -1,4 +1,3 @@
--- The queue is a list.
 use Rattle.run_queues.proofs.run_queues.RunQueues.remove_queue.Goals as goal
 
 pub returns : goal.returns

@@ -1,4 +1,3 @@
--- The task is pushed.
 use Rattle.run_queues.proofs.run_queues.RunQueues.spawn.Goals as goal
 
 pub returns-clause-outcome : goal.returns-clause-outcome

@@ -1,4 +1,3 @@
--- The list is appended.
 use Rattle.run_queues.proofs.run_queues.RunQueues.wake_all.Goals as goal
 
 pub returns : goal.returns

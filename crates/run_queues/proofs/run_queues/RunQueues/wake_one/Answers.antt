@@ -1,4 +1,3 @@
--- The first task is moved, or there is none.
 use Rattle.std.proofs.Common.{refl}
 use Rattle.run_queues.proofs.FairnessLemmas.{same_or_not}
 use Rattle.run_queues.proofs.WakingLemmas.{none_first, wakes_moved, wakes_refused}

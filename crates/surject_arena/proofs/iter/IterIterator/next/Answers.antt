@@ -1,4 +1,3 @@
--- The advancer yields the first pointer ahead.
 use Rattle.surject_arena.proofs.IterLemmas.{yields, goes_on}
 use Rattle.surject_arena.proofs.iter.IterIterator.next.Goals as goal
 

@@ -1,4 +1,3 @@
--- Keys are redirected, two cycles are merged, and one value is removed.
 use Rattle.std.proofs.Common.{arith}
 use Rattle.surject_arena.proofs.UnionLemmas.{both_fit, is_returned, partition_joined, are_absorbed}
 use Rattle.surject_arena.proofs.surject.SurjectArena.absorb.Goals as goal

@@ -1,4 +1,3 @@
--- The next key of the cyclic chain is another one, unless the key is alone.
 use Rattle.std.proofs.Common.{◌≢◌, Some, refl, sym, ap, ◌∙◌}
 use Rattle.surject_arena.specs.Partitions.{member_view}
 use Rattle.surject_arena.proofs.ViewLemmas.{each-valid}

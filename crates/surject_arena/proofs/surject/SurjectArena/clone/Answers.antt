@@ -1,4 +1,3 @@
--- The copies have the entries and chains of the arenas.
 use Rattle.std.proofs.Common.{ap}
 use Rattle.std.specs.Option.{option_map}
 use Rattle.surject_arena.proofs.SetChangeLemmas.{same_partition, same_entries}

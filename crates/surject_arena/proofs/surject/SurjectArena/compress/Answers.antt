@@ -1,4 +1,3 @@
--- The closure leaves each key unchanged.
 use Rattle.std.proofs.Common.{rules}
 use Rattle.arena_traits.proofs.ClosureLemmas.{values_kept}
 use Rattle.surject_arena.proofs.OptionLemmas.{if_ok_to}

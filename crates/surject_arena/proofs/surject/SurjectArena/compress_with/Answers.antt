@@ -1,4 +1,3 @@
--- Keys and values are moved, and the sets of the keys are renamed.
 use Rattle.std.proofs.Common.{◌≡◌, ℕ, sym, subst, subst₂}
 use Rattle.std.specs.Prelude.{IfSome}
 use Rattle.arena_core.specs.Invalidation.{invalidation_option}

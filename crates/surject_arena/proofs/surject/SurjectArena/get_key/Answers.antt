@@ -1,4 +1,3 @@
--- The arena of keys reads the key.
 use Rattle.std.proofs.Common.{refl, ap, ◌∙◌}
 use Rattle.std.specs.Option.{option_map}
 use Rattle.surject_arena.specs.Partitions.{member_view}

@@ -1,4 +1,3 @@
--- The member is written with another key and the same set.
 use Rattle.std.proofs.Common.{refl, ap, ◌∙◌}
 use Rattle.std.specs.Option.{option_map}
 use Rattle.surject_arena.specs.Partitions.{member, member_view}

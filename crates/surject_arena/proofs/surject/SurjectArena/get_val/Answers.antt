@@ -1,4 +1,3 @@
--- The value of the key's set is there.
 use Rattle.std.proofs.Common.{refl}
 use Rattle.surject_arena.specs.Partitions.{member_view, counted}
 use Rattle.surject_arena.proofs.ViewLemmas.{valid-each, each-valid}

@@ -1,4 +1,3 @@
--- Keys are in one set exactly if they name one value.
 use Rattle.std.proofs.Common.{refl, sym, ◌∙◌}
 use Rattle.surject_arena.proofs.SetReadLemmas.{key_of, of_key}
 use Rattle.surject_arena.proofs.surject.SurjectArena.in_same_set.Goals as goal

@@ -1,4 +1,3 @@
--- The key follows `p` in its chain, and is counted.
 use Rattle.std.proofs.Common.{◌+◌, refl, ap, ◌∙◌, arith}
 use Rattle.arena_traits.specs.Arena.{IsValid}
 use Rattle.arena_traits.specs.Growth.{RefusesOneMore}

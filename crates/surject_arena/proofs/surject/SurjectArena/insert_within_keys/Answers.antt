@@ -1,4 +1,3 @@
--- The key is alone in its set, whose value is new.
 use Rattle.std.proofs.Common.{refl}
 use Rattle.surject_arena.specs.Partitions.{member, counted, member_view, counted_view}
 use Rattle.surject_arena.proofs.ViewLemmas.{added-each, grows-each}

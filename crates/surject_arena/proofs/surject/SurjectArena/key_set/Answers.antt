@@ -1,4 +1,3 @@
--- The walk from a key passes the keys of its set.
 use Rattle.std.proofs.Common.{sym, subst}
 use Rattle.surject_arena.specs.KeySets.{ArePointersOf}
 use Rattle.surject_arena.specs.Partitions.{member_view}

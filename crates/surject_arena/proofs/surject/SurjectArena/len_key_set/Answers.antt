@@ -1,4 +1,3 @@
--- The value counts its keys.
 use Rattle.std.proofs.Common.{refl}
 use Rattle.surject_arena.specs.Partitions.{member_view}
 use Rattle.surject_arena.proofs.ViewLemmas.{valid-each, each-valid}

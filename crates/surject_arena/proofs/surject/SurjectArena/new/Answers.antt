@@ -1,4 +1,3 @@
--- Arenas without entries have no sets.
 use Rattle.std.proofs.Common.{sym, ap, ◌∙◌}
 use Rattle.arena_traits.specs.Entries.{found}
 use Rattle.surject_arena.proofs.SetChangeLemmas.{no_sets}

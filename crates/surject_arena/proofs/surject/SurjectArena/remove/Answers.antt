@@ -1,4 +1,3 @@
--- The other keys are removed, and then the last one with the value.
 use Rattle.std.proofs.Common.{suc, length, Some, sym, ap, ◌∙◌}
 use Rattle.std.specs.Prelude.{◌||◌}
 use Rattle.arena_core.specs.Invalidation.{is_overflow_result}

@@ -1,4 +1,3 @@
--- A removed key leaves its set, and takes the value with it if it was the last.
 use Rattle.surject_arena.specs.Partitions.{member_view}
 use Rattle.surject_arena.proofs.ViewLemmas.{each-valid}
 use Rattle.surject_arena.proofs.CallLemmas.{partition_without, key_taken}

@@ -1,4 +1,3 @@
--- Each step removes a key beside p, until p is alone.
 use Rattle.std.proofs.Common.{ap, ◌∙◌}
 use Rattle.surject_arena.proofs.SetReductionLemmas.{none_removed, key_beside_removed}
 use Rattle.surject_arena.proofs.surject.SurjectArena.remove_others.Goals as goal

@@ -1,4 +1,3 @@
--- The value is replaced, and its size stays.
 use Rattle.std.proofs.Common.{◌≡◌, refl, sym, subst}
 use Rattle.std.specs.Prelude.{IfNone}
 use Rattle.surject_arena.specs.Partitions.{member_view}

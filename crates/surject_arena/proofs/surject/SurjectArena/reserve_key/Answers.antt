@@ -1,4 +1,3 @@
--- A growth keeps the entries and the links.
 use Rattle.std.proofs.Common.{◌≡◌, refl, ap}
 use Rattle.std.specs.Option.{option_map}
 use Rattle.chain_traits.proofs.OutcomeLemmas.{either_grown}

@@ -1,4 +1,3 @@
--- A value is inserted, the former one counts one key less, and the key leaves its ring.
 use Rattle.std.proofs.Common.{arith}
 use Rattle.surject_arena.specs.Partitions.{counted, counted_view}
 use Rattle.surject_arena.proofs.ViewLemmas.{added-each, grows-each}

@@ -1,4 +1,3 @@
--- A key that is alone gets another value; any other is set apart.
 use Rattle.std.proofs.Common.{◌≡◌, Some, refl, sym, ap, ◌∙◌, subst, arith}
 use Rattle.std.specs.Prelude.{Ok}
 use Rattle.arena_traits.specs.Growth.{RefusesOneMore}

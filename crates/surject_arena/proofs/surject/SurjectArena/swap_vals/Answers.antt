@@ -1,4 +1,3 @@
--- The values of two sets are exchanged.
 use Rattle.std.proofs.Common.{◌≡◌, false, true, inl, inr, refl, sym, ap, ◌∙◌, subst}
 use Rattle.surject_arena.specs.SetCalls.{SwapsValuesOf}
 use Rattle.surject_arena.proofs.OptionLemmas.{same_some}

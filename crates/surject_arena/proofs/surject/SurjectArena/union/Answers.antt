@@ -1,4 +1,3 @@
--- The smaller set is put into the larger one.
 use Rattle.std.proofs.Common.{inl, inr, refl, sym, ap, ◌∙◌, subst, arith}
 use Rattle.surject_arena.specs.SetCalls.{UnitesSets}
 use Rattle.surject_arena.proofs.OptionLemmas.{same_some}

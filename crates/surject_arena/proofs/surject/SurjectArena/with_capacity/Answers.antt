@@ -1,4 +1,3 @@
--- The views are those of two new arenas.
 use Rattle.std.proofs.Common.{inl, inr, refl}
 use Rattle.surject_arena.specs.Partitions.{member_view, counted_view}
 use Rattle.surject_arena.proofs.ViewLemmas.{new-each}

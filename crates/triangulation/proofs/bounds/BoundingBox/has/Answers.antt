@@ -1,4 +1,3 @@
--- Both coordinates are in their ranges.
 use Rattle.std.proofs.Common.{arith}
 use Rattle.std.proofs.lemmas.Int.{ints}
 use Rattle.triangulation.proofs.bounds.BoundingBox.has.Goals as goal

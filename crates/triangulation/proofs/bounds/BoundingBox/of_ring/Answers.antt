@@ -1,4 +1,3 @@
--- The box grows by one more.
 use Rattle.std.proofs.Common.{pos, take, sym}
 use Rattle.std.proofs.lemmas.List.{take_all}
 use Rattle.std.proofs.lemmas.List.Elements.{All-more, All-weaker, All-same}

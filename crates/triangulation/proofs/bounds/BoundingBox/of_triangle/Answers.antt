@@ -1,4 +1,3 @@
--- The box has the corners, so it has the triangle.
 use Rattle.triangulation.proofs.TriangleLemmas.{triangle_in_box}
 use Rattle.triangulation.proofs.bounds.BoundingBox.of_triangle.Goals as goal
 

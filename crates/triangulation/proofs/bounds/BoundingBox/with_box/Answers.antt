@@ -1,4 +1,3 @@
--- Each side is beyond those of both.
 use Rattle.std.proofs.Common.{arith}
 use Rattle.std.proofs.lemmas.Int.{ints}
 use Rattle.triangulation.proofs.bounds.BoundingBox.with_box.Goals as goal

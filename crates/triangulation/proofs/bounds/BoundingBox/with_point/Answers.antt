@@ -1,4 +1,3 @@
--- Each side is beyond the point, and beyond the side before.
 use Rattle.std.proofs.Common.{arith}
 use Rattle.std.proofs.lemmas.Int.{ints}
 use Rattle.triangulation.proofs.bounds.BoundingBox.with_point.Goals as goal
