@@ -5,7 +5,7 @@ use Rattle.arena_core.specs.declared.errors.ReallocationError.{ReallocationError
 use Rattle.chain_laws.specs.Chains.{LinkMap}
 use Rattle.arena_traits.specs.Entries.{ArenaView, ArenaState}
 use Rattle.linked_lists.specs.declared.entry.Entry.{Entry}
-use Rattle.linked_lists.specs.LinkedLists.{ReadsHandle, SplitsOff}
+use Rattle.linked_lists.specs.LinkedLists.{ReadsHandle, SplitsList}
 
 -- A result with the head of the document in it.
 abbrev pub head_in : {D P E : Type 0} → (D → P) → Result (Option D) E → Result (Option P) E
@@ -20,4 +20,4 @@ module _ {A Gen T : Type 0} {view : A → ArenaView Gen (Entry T)} {entry : A �
 
   -- `split_at`: the paragraphs from `p` on are moved to a new document, if `p` is a paragraph.
   abbrev pub SplitsDocument : ℕ → A → P → Result (Option D) ReallocationError → A → Type 0
-  SplitsDocument greatest old p result new = SplitsOff state interlinks key greatest old p (head_in head result) new
+  SplitsDocument greatest old p result new = SplitsList state interlinks key greatest old p (head_in head result) new

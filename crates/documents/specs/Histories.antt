@@ -11,7 +11,7 @@ use Rattle.chain_lists.specs.Lists.{Item}
 use Rattle.chain_lists.specs.Sizes.{ReservesMore}
 use Rattle.linked_lists.specs.declared.entry.Entry.{Entry}
 use Rattle.linked_lists.specs.declared.entry.Entry.TheVariants as entries
-use Rattle.linked_lists.specs.LinkedLists.{IsItem, IsInListOf, HasPlace, AllInLists, KeepsEntries, ValueBecomes, LeavesList, IsListRemoved, CreatesList, PushesFront, PushesBack, InsertsAfterItem, InsertsBeforeItem, ReplacesItem, MovesToFront, MovesToBack, MovesAfterItem, MovesRangeToFront, MovesRangeToBack, MovesRangeAfter, AppendsList, SplitsOff, RemovesListItem, RemovesList}
+use Rattle.linked_lists.specs.LinkedLists.{IsItem, IsInListOf, HasPlace, AllInLists, KeepsEntries, ValueBecomes, LeavesList, IsListRemoved, CreatesList, PushesFront, PushesBack, InsertsAfterItem, InsertsBeforeItem, ReplacesItem, MovesToFront, MovesToBack, MovesAfterItem, MovesRangeToFront, MovesRangeToBack, MovesRangeAfter, JoinsLists, SplitsList, RemovesListItem, RemovesList}
 
 -- What a call that succeeded did, with the document or the paragraph. Calls that fail change
 -- nothing.
@@ -50,8 +50,8 @@ module _ {A Gen T : Type 0} {view : A → ArenaView Gen (Entry T)} {entry : A �
     pub move_range_to_front : (old new : A) (first last d : ℕ × Gen) → MovesRangeToFront state interlinks old first last d (Some tt) new → Makes old moves new
     pub move_range_to_back : (old new : A) (first last d : ℕ × Gen) → MovesRangeToBack state interlinks old first last d (Some tt) new → Makes old moves new
     pub move_range_after : (old new : A) (first last q : ℕ × Gen) → MovesRangeAfter state interlinks old first last q (Some tt) new → Makes old moves new
-    pub join : (old new : A) (d e : ℕ × Gen) → AppendsList state interlinks old d e (Some tt) new → Makes old moves new
-    pub split_at : (greatest : ℕ) (old new : A) (p d : P) → SplitsOff state interlinks pointers.key greatest old p (Ok (Some d)) new → Makes old (creates (pointers.key d)) new
+    pub join : (old new : A) (d e : ℕ × Gen) → JoinsLists state interlinks old d e (Some tt) new → Makes old moves new
+    pub split_at : (greatest : ℕ) (old new : A) (p d : P) → SplitsList state interlinks pointers.key greatest old p (Ok (Some d)) new → Makes old (creates (pointers.key d)) new
     pub remove : (old new : A) (p : P) (result : InvalidationResult T) → IsSome (value_within result) → RemovesListItem state interlinks pointers old p result new → Makes old (removes (pointers.key p)) new
     pub remove_document : (old new : A) (d : ℕ × Gen) (result : InvalidationResult ℕ) → IsSome (value_within result) → RemovesList state interlinks pointers.wraps pointers.following old d result new → Makes old (removes_document d) new
     pub reserve : (greatest additional : ℕ) (old new : A) (done : Result Unit ReallocationError) → ReservesMore state interlinks greatest additional old done new → Makes old grows new

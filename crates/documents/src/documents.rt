@@ -6,7 +6,7 @@ ghost use Rattle.chain_laws.specs.declared.insert_kind.InsertKind.TheVariants as
 ghost use Rattle.chain_lists.specs.Sizes.{ReservesMore, CountsEntries, ReportsCapacity};
 ghost use Rattle.documents.specs.Histories.{CallsMakeChanges, CallsKeepParagraphs};
 ghost use Rattle.documents.specs.Documents.{FindsDocument, SplitsDocument};
-ghost use Rattle.linked_lists.specs.LinkedLists.{AllInLists, IsHandle, IsItem, IsRangeWithout, ReadsValue, ReadsFirst, ReadsLast, ReadsNext, ReadsPrev, ReadsHandle, ListsItems, CreatesList, PushesFront, PushesBack, InsertsAfterItem, InsertsBeforeItem, RemovesListItem, ReplacesItem, MovesToFront, MovesToBack, MovesAfterItem, MovesRangeToFront, MovesRangeToBack, MovesRangeAfter, AppendsList, SplitsOff, RemovesList};
+ghost use Rattle.linked_lists.specs.LinkedLists.{AllInLists, IsHandle, IsItem, IsRangeWithout, ReadsValue, ReadsFirst, ReadsLast, ReadsNext, ReadsPrev, ReadsHandle, ListsItems, CreatesList, PushesFront, PushesBack, InsertsAfterItem, InsertsBeforeItem, RemovesListItem, ReplacesItem, MovesToFront, MovesToBack, MovesAfterItem, MovesRangeToFront, MovesRangeToBack, MovesRangeAfter, JoinsLists, SplitsList, RemovesList};
 
 use arena_ptr::{
     AnyPointer, ChainInsertionError, GenKey, InvalidationResult, InxKey, PtrKey, ReallocationError,
@@ -408,10 +408,10 @@ impl<P: PtrKey, T: Drop, A: ChainArenaTrait<P, Entry<T>> + Drop> Documents<P, T,
     /// `e` is empty then, and its handle stays valid. Pointers to paragraphs stay. Returns `None`
     /// and changes nothing if `d` or `e` is not a handle, or if both are the same document.
     pub fn join(&mut self, d: Document<P>, e: Document<P>) -> Option<()>
-        ensures { AppendsList A.state A.interlinks self.old (P.key d.head) (P.key e.head) result
+        ensures { JoinsLists A.state A.interlinks self.old (P.key d.head) (P.key e.head) result
             self.new }
     {
-        self.lists.append(d.head, e.head)
+        self.lists.join(d.head, e.head)
     }
 
     /// Splits a document directly before `p`: `p` and the paragraphs after it are moved to a new
@@ -432,7 +432,7 @@ impl<P: PtrKey, T: Drop, A: ChainArenaTrait<P, Entry<T>> + Drop> Documents<P, T,
         ensures { SplitsDocument A.state A.interlinks P.key (λ d. d.head) P.Inx.greatest self.old p
             result self.new }
     {
-        match self.lists.split_off(p) {
+        match self.lists.split_at(p) {
             Ok(Some(head)) => Ok(Some(Document { head })),
             Ok(None) => Ok(None),
             Err(why) => Err(why),

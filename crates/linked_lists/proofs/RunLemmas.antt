@@ -15,7 +15,7 @@ use Rattle.chain_lists.proofs.ItemListLemmas.{are_stored-append, are_stored-left
 use Rattle.chain_lists.proofs.ListChangeLemmas.{parts, whole, stays}
 use Rattle.linked_lists.specs.declared.entry.Entry.{Entry}
 use Rattle.linked_lists.specs.declared.entry.Entry.TheVariants as entries
-use Rattle.linked_lists.specs.LinkedLists.{as_item, ring_of, IsHandle, IsList, EachInList, KeepsOthers, KeepsEntries, IsAppended, AppendsList, ReadsFirst}
+use Rattle.linked_lists.specs.LinkedLists.{as_item, ring_of, IsHandle, IsList, EachInList, KeepsOthers, KeepsEntries, AreJoined, JoinsLists, ReadsFirst}
 use Rattle.linked_lists.specs.RingCalls.{EndsList}
 use Rattle.linked_lists.proofs.RingLemmas.{ring_rotated}
 use Rattle.linked_lists.proofs.ListLemmas.{ring_parts, ring_has, ring_member, same_handle, same_list, list_of, item_valid, each_kept_two}
@@ -121,8 +121,8 @@ module _ {A Gen T : Type 0} {view : A → ArenaView Gen (Entry T)} {entry : A �
           (λ has. none.1.0 (same_handle state interlinks old j k zs ys f.0 there two has (inr (first_among run f first_is))))
           (λ has. none.1.0 (same_handle state interlinks old j k zs ys z.0 there two has (inr (last_among run z last_is_z)))) there
 
-  pub nothing_appended : (h k : ℕ × Gen) → IsList state interlinks old k [] → IsAppended state interlinks old old h k
-  nothing_appended h k empty = record {
+  pub nothing_joined : (h k : ℕ × Gen) → IsList state interlinks old k [] → AreJoined state interlinks old old h k
+  nothing_joined h k empty = record {
     lists = λ xs ys one two.
         let none = same_list state interlinks old k ys [] two empty in
         (subst (IsList state interlinks old h) (sym (ap (λ (l : List (Item Gen T)). xs ++ l) none ∙ append-nil xs)) one, empty);
@@ -130,9 +130,9 @@ module _ {A Gen T : Type 0} {view : A → ArenaView Gen (Entry T)} {entry : A �
     entries = (refl, refl);
   }
 
-  pub each_appended : (h k : ℕ × Gen) → EachInList state interlinks old → (r : Option Unit) → AppendsList state interlinks old h k r new → EachInList state interlinks new
-  each_appended h k each None is = subst (EachInList state interlinks) (sym is.1) each
-  each_appended h k each (Some done) (head, also, other, is) =
+  pub each_joined : (h k : ℕ × Gen) → EachInList state interlinks old → (r : Option Unit) → JoinsLists state interlinks old h k r new → EachInList state interlinks new
+  each_joined h k each None is = subst (EachInList state interlinks) (sym is.1) each
+  each_joined h k each (Some done) (head, also, other, is) =
       let one = list_of state interlinks old each h head in
       let two = list_of state interlinks old each k also in
       let now = is.lists one.0 two.0 one.1 two.1 in
@@ -143,20 +143,20 @@ module _ {A Gen T : Type 0} {view : A → ArenaView Gen (Entry T)} {entry : A �
         (λ has. ⊎_elim (λ here. no_k (inl here)) (λ among. no_h (ring_has h (one.0 ++ two.0) i (inr (among-right one.0 two.0 i among)))) (ring_member k two.0 i has)),
       ))
 
--- `append`, by the case of the first item of the second list.
+-- `join`, by the case of the first item of the second list.
 module _ {A Gen T : Type 0} {view : A → ArenaView Gen (Entry T)} {entry : A → ℕ → Option (Gen × Entry T)} (state : (a : A) → ArenaState (view a) (entry a)) (interlinks : A → LinkMap) {P : Type 0} (key : P → ℕ × Gen) (old new : A) (h k : P)
     (each : EachInList state interlinks old) (head : IsHandle (entry old) (key h)) (also : IsHandle (entry old) (key k)) (other : key h ≢ key k) where
-  pub appends_nothing : ReadsFirst state interlinks key old k None → new ≡ old → AppendsList state interlinks old (key h) (key k) (Some tt) new
-  appends_nothing reads same =
+  pub joins_nothing : ReadsFirst state interlinks key old k None → new ≡ old → JoinsLists state interlinks old (key h) (key k) (Some tt) new
+  joins_nothing reads same =
       let list = list_of state interlinks old each (key k) also in
-      subst (AppendsList state interlinks old (key h) (key k) (Some tt)) (sym same) (head, also, other, nothing_appended state interlinks old old (key h) (key k) (subst (IsList state interlinks old (key k)) (empty list.0 (reads.first list.0 list.1)) list.1))
+      subst (JoinsLists state interlinks old (key h) (key k) (Some tt)) (sym same) (head, also, other, nothing_joined state interlinks old old (key h) (key k) (subst (IsList state interlinks old (key k)) (empty list.0 (reads.first list.0 list.1)) list.1))
     where
       empty : (es : List (Item Gen T)) → None ≡ first_key es → es ≡ []
       empty [] none = refl
       empty (e ∷ es) none = absurd (let some = none in cc)
 
   pub appends_run : (l f z : P) → EndsList state interlinks old (key h) (key l) → EndsList state interlinks old (key k) (key z) → IsValid (entry old) (key l) → IsValid (entry old) (key z) → ReadsFirst state interlinks key old k (Some f)
-      → (r : Option Unit) → SplicesAfter state interlinks key old l f z r new → IfNone r (new ≡ old) → AppendsList state interlinks old (key h) (key k) r new
+      → (r : Option Unit) → SplicesAfter state interlinks key old l f z r new → IfNone r (new ≡ old) → JoinsLists state interlinks old (key h) (key k) r new
   appends_run l f z ends ends_k valid valid_z reads None is same = absurd (is (record { p_valid = valid; first_valid = first_valid list.0 (sym (reads.first list.0 list.1)) list.1; last_valid = valid_z; apart = ends_differ }))
     where
       list : (items : List (Item Gen T)) × IsList state interlinks old (key k) items

@@ -14,7 +14,7 @@ use Rattle.chain_lists.specs.Lists.{Item, indexes, IsRing}
 use Rattle.chain_lists.proofs.ItemListLemmas.{are_stored-some, among-left, among-right, among-parts, last_apart, last_is}
 use Rattle.linked_lists.specs.declared.entry.Entry.{Entry}
 use Rattle.linked_lists.specs.declared.entry.Entry.TheVariants as entries
-use Rattle.linked_lists.specs.LinkedLists.{as_item, ring_of, IsItem, IsList, EachInList, KeepsOthers, KeepsEntries, IsListStarted, IsSplitOff, SplitsOff}
+use Rattle.linked_lists.specs.LinkedLists.{as_item, ring_of, IsItem, IsList, EachInList, KeepsOthers, KeepsEntries, IsListStarted, IsSplit, SplitsList}
 use Rattle.linked_lists.specs.RingCalls.{EndsListOf}
 use Rattle.linked_lists.proofs.RingLemmas.{ring_rotated}
 use Rattle.linked_lists.proofs.ListLemmas.{ring_parts, same_handle, place_of, item_valid, links_of_handle}
@@ -70,8 +70,8 @@ module _ {A Gen T : Type 0} {view : A → ArenaView Gen (Entry T)} {entry : A �
       left_behind : IsList state interlinks new h before
       left_behind = run_leaves state interlinks mid new q p l splices kept.0 run (ring_of h before) run_ends turned apart_q (λ none. cc)
 
-      split_off : IsList state interlinks new q ((p, t) ∷ after)
-      split_off = subst (λ (r : List (Item Gen (Entry T))). IsRing state interlinks new ((q, entries.Head) ∷ r)) (append-nil run)
+      split_at : IsList state interlinks new q ((p, t) ∷ after)
+      split_at = subst (λ (r : List (Item Gen (Entry T))). IsRing state interlinks new ((q, entries.Head) ∷ r)) (append-nil run)
           (run_comes state interlinks mid new q p l splices kept.0 run (ring_of h before) run_ends turned apart_q entries.Head [] [] started.list)
 
       others_stay : KeepsOthers state interlinks old new (h ∷ [])
@@ -81,15 +81,15 @@ module _ {A Gen T : Type 0} {view : A → ArenaView Gen (Entry T)} {entry : A �
           (λ has. none.0 (same_handle state interlinks old k h items (before ++ (p, t) ∷ after) l.0 is was has has_last))
           (started.others k items tt is)
 
-    is_split_off : IsSplitOff state interlinks old new p q
+    is_split_off : IsSplit state interlinks old new p q
     is_split_off = record {
-      lists = λ h t before after was. (record { list = left_behind h t before after was; others = others_stay h t before after was }, split_off h t before after was);
+      lists = λ h t before after was. (record { list = left_behind h t before after was; others = others_stay h t before after was }, split_at h t before after was);
       head = then_kept q started.head kept;
     }
 
-  pub splits_off : {P : Type 0} (key : P → ℕ × Gen) (greatest : ℕ) (p q l : P) → IsItem (entry old) (key p) → IsListStarted state interlinks old mid (key q) → GrowsForOneMore greatest (view old) (view mid)
-      → IsValid (entry old) (key l) → EndsListOf state interlinks old (key p) (key l) → (r : Option Unit) → SplicesAfter state interlinks key mid q p l r new → SplitsOff state interlinks key greatest old p (Ok (Some q)) new
-  splits_off key greatest p q l item started grows valid ends None is = absurd (is (record {
+  pub splits_list : {P : Type 0} (key : P → ℕ × Gen) (greatest : ℕ) (p q l : P) → IsItem (entry old) (key p) → IsListStarted state interlinks old mid (key q) → GrowsForOneMore greatest (view old) (view mid)
+      → IsValid (entry old) (key l) → EndsListOf state interlinks old (key p) (key l) → (r : Option Unit) → SplicesAfter state interlinks key mid q p l r new → SplitsList state interlinks key greatest old p (Ok (Some q)) new
+  splits_list key greatest p q l item started grows valid ends None is = absurd (is (record {
     p_valid = record { value = entries.Head; stored = started.head.entries.stored };
     first_valid = still_valid (key p) (item_valid (entry old) (key p) item.value item.stored);
     last_valid = still_valid (key l) valid;
@@ -101,12 +101,12 @@ module _ {A Gen T : Type 0} {view : A → ArenaView Gen (Entry T)} {entry : A �
 
       still_valid : (k : ℕ × Gen) → IsValid (entry old) k → IsValid (entry mid) k
       still_valid k there = record { value = there.value; stored = started.head.entries.rest k.0 (is_new k there) ∙ there.stored }
-  splits_off key greatest p q l item started grows valid ends (Some done) is =
+  splits_list key greatest p q l item started grows valid ends (Some done) is =
       let kept = entries_kept state interlinks mid new (key p) is.1.view_after in
       (item, is_split_off (key p) (key q) (key l) started ends is.1.chains kept, subst (λ (s : ArenaView Gen (Entry T)). GrowsForOneMore greatest (view old) s) (sym kept.1) grows)
 
 module _ {A Gen T : Type 0} {view : A → ArenaView Gen (Entry T)} {entry : A → ℕ → Option (Gen × Entry T)} (state : (a : A) → ArenaState (view a) (entry a)) (interlinks : A → LinkMap) (old new : A) (p q : ℕ × Gen) where
-  pub each_split : EachInList state interlinks old → IsItem (entry old) p → IsSplitOff state interlinks old new p q → EachInList state interlinks new
+  pub each_split : EachInList state interlinks old → IsItem (entry old) p → IsSplit state interlinks old new p q → EachInList state interlinks new
   each_split each item is i some =
       let at = place_of state interlinks old each p item.value item.stored in
       let now = is.lists at.handle item.value at.before at.after at.list in

@@ -204,13 +204,13 @@ module _ {A Gen T : Type 0} {view : A → ArenaView Gen (Entry T)} {entry : A �
       pub entries : KeepsEntries
 
     -- The items of the list of `k` are moved behind those of the list of `h`.
-    pub record IsAppended (h k : ℕ × Gen) : Type 0 where
+    pub record AreJoined (h k : ℕ × Gen) : Type 0 where
       pub lists : (xs ys : List (Item Gen T)) → IsList old h xs → IsList old k ys → IsList new h (xs ++ ys) × IsList new k []
       pub others : KeepsOthers (h ∷ k ∷ [])
       pub entries : KeepsEntries
 
     -- The items from `p` on are moved to the new list of `q`.
-    pub record IsSplitOff (p q : ℕ × Gen) : Type 0 where
+    pub record IsSplit (p q : ℕ × Gen) : Type 0 where
       pub lists : (h : ℕ × Gen) (t : T) (before after : List (Item Gen T)) → IsList old h (before ++ (p, t) ∷ after)
           → Becomes h before × IsList new q ((p, t) ∷ after)
       pub head : IsEntryInserted state old entries.Head q new
@@ -302,12 +302,12 @@ module _ {A Gen T : Type 0} {view : A → ArenaView Gen (Entry T)} {entry : A �
     abbrev pub InsertsBeforeItem : ℕ → A → P → T → Result P ChainInsertionError → A → Type 0
     InsertsBeforeItem greatest old p t result new = AddsItem greatest (IsItem (entry old) (key p)) (λ a b. GrowsBefore state interlinks a b (key p)) old t result new
 
-    -- `split_off`: the items from `p` on are moved to a new list, if `p` is an item.
-    abbrev pub SplitsOff : ℕ → A → P → Result (Option P) ReallocationError → A → Type 0
-    SplitsOff greatest old p (Ok None) new = (IsItem (entry old) (key p) → ⊥) × (new ≡ old)
-    SplitsOff greatest old p (Ok (Some q)) new =
-        IsItem (entry old) (key p) × IsSplitOff state interlinks old new (key p) (key q) × GrowsForOneMore greatest (view old) (view new)
-    SplitsOff greatest old p (Err why) new = IsItem (entry old) (key p) × RefusesOneMore (view old) why × (new ≡ old)
+    -- `split_at`: the items from `p` on are moved to a new list, if `p` is an item.
+    abbrev pub SplitsList : ℕ → A → P → Result (Option P) ReallocationError → A → Type 0
+    SplitsList greatest old p (Ok None) new = (IsItem (entry old) (key p) → ⊥) × (new ≡ old)
+    SplitsList greatest old p (Ok (Some q)) new =
+        IsItem (entry old) (key p) × IsSplit state interlinks old new (key p) (key q) × GrowsForOneMore greatest (view old) (view new)
+    SplitsList greatest old p (Err why) new = IsItem (entry old) (key p) × RefusesOneMore (view old) why × (new ≡ old)
 
   -- `replace`: the value of `p` becomes `t`, and the former one is returned, if `p` is an item.
   abbrev pub ReplacesItem : A → ℕ × Gen → T → Option T → A → Type 0
@@ -349,11 +349,11 @@ module _ {A Gen T : Type 0} {view : A → ArenaView Gen (Entry T)} {entry : A �
   MovesRangeAfter old first last q None new = (IsItem (entry old) q → ⊥) × (new ≡ old)
   MovesRangeAfter old first last q (Some done) new = IsItem (entry old) q × IsRangeMoved state interlinks old new first last (RangeAfter q)
 
-  -- `append`: the items of the list of `k` are moved behind those of the list of `h`, if these are
+  -- `join`: the items of the list of `k` are moved behind those of the list of `h`, if these are
   -- two lists.
-  abbrev pub AppendsList : A → (h k : ℕ × Gen) → Option Unit → A → Type 0
-  AppendsList old h k None new = (IsHandle (entry old) h × IsHandle (entry old) k × (h ≢ k) → ⊥) × (new ≡ old)
-  AppendsList old h k (Some done) new = IsHandle (entry old) h × IsHandle (entry old) k × (h ≢ k) × IsAppended state interlinks old new h k
+  abbrev pub JoinsLists : A → (h k : ℕ × Gen) → Option Unit → A → Type 0
+  JoinsLists old h k None new = (IsHandle (entry old) h × IsHandle (entry old) k × (h ≢ k) → ⊥) × (new ≡ old)
+  JoinsLists old h k (Some done) new = IsHandle (entry old) h × IsHandle (entry old) k × (h ≢ k) × AreJoined state interlinks old new h k
 
   -- `remove_list`: the list of `h` is removed and the number of its items returned, if `h` is a
   -- handle, and whether the counter wrapped is reported.

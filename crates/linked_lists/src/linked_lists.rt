@@ -7,7 +7,7 @@ ghost use Rattle.arena_traits.specs.Entries.{IsNew, count};
 ghost use Rattle.chain_laws.specs.declared.insert_kind.InsertKind.TheVariants as kinds;
 ghost use Rattle.chain_lists.specs.Rows.{chain_members};
 ghost use Rattle.chain_lists.specs.Sizes.{ReservesMore, CountsEntries, ReportsCapacity};
-ghost use Rattle.linked_lists.specs.LinkedLists.{AllInLists, EachInList, IsRangeWithout, MovesRangeToFront, MovesRangeToBack, MovesRangeAfter, IsHandle, HasItem, IsItem, ValueBecomes, ReadsValue, ReadsFirst, ReadsLast, ReadsNext, ReadsPrev, ReadsHandle, ListsItems, CreatesList, PushesFront, PushesBack, InsertsAfterItem, InsertsBeforeItem, RemovesListItem, ReplacesItem, MovesToFront, MovesToBack, MovesAfterItem, AppendsList, SplitsOff, RemovesList};
+ghost use Rattle.linked_lists.specs.LinkedLists.{AllInLists, EachInList, IsRangeWithout, MovesRangeToFront, MovesRangeToBack, MovesRangeAfter, IsHandle, HasItem, IsItem, ValueBecomes, ReadsValue, ReadsFirst, ReadsLast, ReadsNext, ReadsPrev, ReadsHandle, ListsItems, CreatesList, PushesFront, PushesBack, InsertsAfterItem, InsertsBeforeItem, RemovesListItem, ReplacesItem, MovesToFront, MovesToBack, MovesAfterItem, JoinsLists, SplitsList, RemovesList};
 ghost use Rattle.linked_lists.specs.RingCalls.{KeepsItemOnly, EndsList, EndsListOf, EmptiesList};
 
 use crate::entry::{Entry, removed_value, value_of};
@@ -531,8 +531,8 @@ impl<P: PtrKey, T: Drop, A: ChainArenaTrait<P, Entry<T>> + Drop> LinkedLists<P, 
     ///
     /// The list of `k` is empty then, and its handle stays valid. Pointers to items stay. Returns
     /// `None` and changes nothing if `h` or `k` is not a handle, or if both are the same handle.
-    pub fn append(&mut self, h: P, k: P) -> Option<()>
-        ensures { AppendsList A.state A.interlinks self.old (P.key h) (P.key k) result self.new }
+    pub fn join(&mut self, h: P, k: P) -> Option<()>
+        ensures { JoinsLists A.state A.interlinks self.old (P.key h) (P.key k) result self.new }
     {
         if !self.is_list(h) {
             return None;
@@ -578,8 +578,8 @@ impl<P: PtrKey, T: Drop, A: ChainArenaTrait<P, Entry<T>> + Drop> LinkedLists<P, 
     /// - `AllocError`: growth would exceed the greatest index, or an allocation failed.
     ///
     /// On error, nothing changes.
-    pub fn split_off(&mut self, p: P) -> Result<Option<P>, ReallocationError>
-        ensures { SplitsOff A.state A.interlinks P.key P.Inx.greatest self.old p result self.new }
+    pub fn split_at(&mut self, p: P) -> Result<Option<P>, ReallocationError>
+        ensures { SplitsList A.state A.interlinks P.key P.Inx.greatest self.old p result self.new }
     {
         if !self.is_item(p) {
             return Ok(None);

@@ -248,14 +248,14 @@ fn move_range<P: PtrKey, A: ChainArenaTrait<P, Entry<u32>> + Drop>(
 }
 
 // Appends a list to another one in both.
-fn append<P: PtrKey, A: ChainArenaTrait<P, Entry<u32>> + Drop>(
+fn join<P: PtrKey, A: ChainArenaTrait<P, Entry<u32>> + Drop>(
     alloc: Global,
     lists: &mut LinkedLists<P, u32, A>,
     model: &mut Model<P>,
     (h, k): (P, P),
 ) -> Result<bool, AllocError> {
     let wanted = append_list(alloc, model, (h, k))?;
-    Ok(lists.append(h, k).is_some() == wanted)
+    Ok(lists.join(h, k).is_some() == wanted)
 }
 
 // Splits a list in both.
@@ -265,7 +265,7 @@ fn split<P: PtrKey, A: ChainArenaTrait<P, Entry<u32>> + Drop>(
     model: &mut Model<P>,
     p: P,
 ) -> Result<bool, AllocError> {
-    let made = lists.split_off(p).ok().flatten();
+    let made = lists.split_at(p).ok().flatten();
     match (made, place_of(model.items.as_slice(), p)) {
         (Some(k), Some((n, h))) => {
             model.handles.push(k)?;
@@ -308,7 +308,7 @@ fn other_step<P: PtrKey, A: ChainArenaTrait<P, Entry<u32>> + Drop>(
     match call {
         12 | 13 => Ok(replace(lists, model, args.p, args.value)),
         14..=16 => Ok(take(model, args.p)? == lists.remove(args.p).allow()),
-        17 => append(alloc, lists, model, (args.h, args.k)),
+        17 => join(alloc, lists, model, (args.h, args.k)),
         18 if model.handles.len() < 6 => split(alloc, lists, model, args.p),
         19 | 20 if model.handles.len() < 6 => create(lists, model),
         _ => Ok(drop_list(alloc, model, args.h)? == lists.remove_list(args.h).allow()),

@@ -257,7 +257,7 @@ fn list_added<P: PtrKey, A: ChainArenaTrait<P, Entry<u32>> + Drop>(
 ) -> Option<P> {
     match row.0 {
         Op::New => lists.new_list().ok(),
-        _ => match lists.split_off(pointer_at(&made.items, row.1)) {
+        _ => match lists.split_at(pointer_at(&made.items, row.1)) {
             Ok(handle) => handle,
             Err(_) => None,
         },
@@ -279,7 +279,7 @@ fn is_moved<P: PtrKey, A: ChainArenaTrait<P, Entry<u32>> + Drop>(
         Op::Behind => lists
             .move_after(p, pointer_at(&made.items, other))
             .is_some(),
-        _ => lists.append(pointer_at(&made.handles, row.1), h).is_some(),
+        _ => lists.join(pointer_at(&made.handles, row.1), h).is_some(),
     }
 }
 

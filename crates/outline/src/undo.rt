@@ -76,8 +76,8 @@ impl<P: PtrKey, A: ChainArenaTrait<P, Entry<Paragraph>> + Drop> Editor<P, A> {
             Change::Move(first, last, origin) => self.put_back(first, last, origin),
             Change::Split(former) => {
                 let document = self.titles.get(former)?.handle;
-                let split_off = self.titles.last()?.handle;
-                self.outline.join(document, split_off)?;
+                let split = self.titles.last()?.handle;
+                self.outline.join(document, split)?;
                 self.drop_last_document()
             }
             Change::Mark(name, former) => self.restore_mark(&name, former),

@@ -7,7 +7,7 @@ use Rattle.arena_traits.specs.Entries.{ArenaView, ArenaState}
 use Rattle.chain_lists.specs.Lists.{Item, indexes}
 use Rattle.chain_lists.proofs.ListChangeLemmas.{stays}
 use Rattle.linked_lists.specs.declared.entry.Entry.{Entry}
-use Rattle.linked_lists.specs.LinkedLists.{pointers_of, ring_of, IsHandle, HasItem, IsList, AllInLists, Becomes, GrowsAtEnd, ValueBecomes, LeavesList, IsItemMoved, IsAppended, AtEnd}
+use Rattle.linked_lists.specs.LinkedLists.{pointers_of, ring_of, IsHandle, HasItem, IsList, AllInLists, Becomes, GrowsAtEnd, ValueBecomes, LeavesList, IsItemMoved, AreJoined, AtEnd}
 use Rattle.run_queues.specs.Turns.{Step, turn, come, leave, IsRun, HasTurn}
 use Rattle.run_queues.specs.RunQueues.{IsTurnTaken, TakesSteps}
 use Rattle.run_queues.specs.Histories.{Change, creates, spawns, gives_turn, moves, wakes_one, wakes_all, replaces, cancels, removes, grows, TakesAway, AreStepsOf, CallsTakeSteps}
@@ -138,7 +138,7 @@ module _ {A Gen T : Type 0} {view : A → ArenaView Gen (Entry T)} {entry : A �
           (λ other. by_none (elsewhere all h q (is.rest ++ (p, is.value) ∷ []) is.last other))
           (decide h q)
 
-      by_append : AllInLists state interlinks old → (h l : ℕ × Gen) → ((p : ℕ × Gen) → l ≡ q → TakesAway change q p) → IsHandle (entry old) h → IsHandle (entry old) l → IsAppended state interlinks old new h l → Steps
+      by_append : AllInLists state interlinks old → (h l : ℕ × Gen) → ((p : ℕ × Gen) → l ≡ q → TakesAway change q p) → IsHandle (entry old) h → IsHandle (entry old) l → AreJoined state interlinks old new h l → Steps
       by_append all h l away queue list is =
           let xs = all.lists h queue in
           let ys = all.lists l list in

@@ -9,7 +9,7 @@ use Rattle.arena_traits.specs.Entries.{ArenaView, ArenaState}
 use Rattle.chain_lists.specs.Lists.{Item}
 use Rattle.chain_lists.specs.Sizes.{ReservesMore}
 use Rattle.linked_lists.specs.declared.entry.Entry.{Entry}
-use Rattle.linked_lists.specs.LinkedLists.{pointers_of, IsHandle, HasItem, IsItem, IsList, IsInListOf, HasPlace, AllInLists, IsListStarted, GrowsAtEnd, IsItemAdded, ValueBecomes, LeavesList, IsListRemoved, IsItemMoved, IsAppended, AtEnd, CreatesList, PushesBack, MovesToBack, AppendsList, ReplacesItem, RemovesListItem, RemovesList}
+use Rattle.linked_lists.specs.LinkedLists.{pointers_of, IsHandle, HasItem, IsItem, IsList, IsInListOf, HasPlace, AllInLists, IsListStarted, GrowsAtEnd, IsItemAdded, ValueBecomes, LeavesList, IsListRemoved, IsItemMoved, AreJoined, AtEnd, CreatesList, PushesBack, MovesToBack, JoinsLists, ReplacesItem, RemovesListItem, RemovesList}
 use Rattle.run_queues.specs.Turns.{Step, IsAmong, HasTurn, Leaves}
 use Rattle.run_queues.specs.RunQueues.{IsTurnTaken, IsOneWoken, TakesSteps, TakesTurn, WakesOne}
 
@@ -54,7 +54,7 @@ module _ {A Gen T : Type 0} {view : A → ArenaView Gen (Entry T)} {entry : A �
   Makes old (gives_turn q p) new = IsTurnTaken state interlinks old new q p
   Makes old (moves p q) new = IsItem (entry old) p × IsHandle (entry old) q × IsItemMoved state interlinks old new p (AtEnd q)
   Makes old (wakes_one l q p) new = IsOneWoken state interlinks old new l q p
-  Makes old (wakes_all l q) new = IsHandle (entry old) q × IsHandle (entry old) l × (q ≢ l) × IsAppended state interlinks old new q l
+  Makes old (wakes_all l q) new = IsHandle (entry old) q × IsHandle (entry old) l × (q ≢ l) × AreJoined state interlinks old new q l
   Makes old (replaces p) new = (t : T) × (former : T) × HasItem (entry old) p former × ValueBecomes state interlinks old new p t
   Makes old (cancels p) new = (t : T) × LeavesList state interlinks old new pointers p t
   Makes old (removes q) new = (tasks : List (Item Gen T)) × IsListRemoved state interlinks old new pointers.following q tasks
@@ -67,7 +67,7 @@ module _ {A Gen T : Type 0} {view : A → ArenaView Gen (Entry T)} {entry : A �
     pub next : (old new : A) (q p : P) → TakesTurn state interlinks pointers.key old q (Some p) new → Makes old (gives_turn (pointers.key q) (pointers.key p)) new
     pub move_to : (old new : A) (p q : ℕ × Gen) → MovesToBack state interlinks old p q (Some tt) new → Makes old (moves p q) new
     pub wake_one : (old new : A) (l q p : P) → WakesOne state interlinks pointers.key old l q (Some p) new → Makes old (wakes_one (pointers.key l) (pointers.key q) (pointers.key p)) new
-    pub wake_all : (old new : A) (l q : ℕ × Gen) → AppendsList state interlinks old q l (Some tt) new → Makes old (wakes_all l q) new
+    pub wake_all : (old new : A) (l q : ℕ × Gen) → JoinsLists state interlinks old q l (Some tt) new → Makes old (wakes_all l q) new
     pub replace : (old new : A) (p : ℕ × Gen) (t former : T) → ReplacesItem state interlinks old p t (Some former) new → Makes old (replaces p) new
     pub cancel : (old new : A) (p : P) (result : InvalidationResult T) → IsSome (value_within result) → RemovesListItem state interlinks pointers old p result new → Makes old (cancels (pointers.key p)) new
     pub remove_queue : (old new : A) (q : ℕ × Gen) (result : InvalidationResult ℕ) → IsSome (value_within result) → RemovesList state interlinks pointers.wraps pointers.following old q result new → Makes old (removes q) new

@@ -4,7 +4,7 @@ ghost use Rattle.std.specs.Prelude.{◌≡◌, ◌↔◌, ◌+◌, ℕ, [], IsTr
 ghost use Rattle.arena_traits.specs.Entries.{IsNew, count};
 ghost use Rattle.chain_laws.specs.declared.insert_kind.InsertKind.TheVariants as kinds;
 ghost use Rattle.chain_lists.specs.Sizes.{ReservesMore, CountsEntries, ReportsCapacity};
-ghost use Rattle.linked_lists.specs.LinkedLists.{AllInLists, IsHandle, IsItem, ReadsValue, ReadsFirst, ReadsHandle, ListsItems, CreatesList, PushesBack, RemovesListItem, ReplacesItem, MovesToBack, AppendsList, RemovesList};
+ghost use Rattle.linked_lists.specs.LinkedLists.{AllInLists, IsHandle, IsItem, ReadsValue, ReadsFirst, ReadsHandle, ListsItems, CreatesList, PushesBack, RemovesListItem, ReplacesItem, MovesToBack, JoinsLists, RemovesList};
 ghost use Rattle.run_queues.specs.Histories.{CallsMakeChanges, CallsTakeSteps, CallsAreFair, CallsKeepTasks};
 ghost use Rattle.run_queues.specs.RunQueues.{TakesTurn, WakesOne};
 ghost use Rattle.run_queues.specs.Turns.{TasksStayAhead, TurnsAreFair};
@@ -273,10 +273,10 @@ impl<P: PtrKey, T: Drop, A: ChainArenaTrait<P, Entry<T>> + Drop> RunQueues<P, T,
     /// Returns `None` and changes nothing if `list` or `queue` is not a handle, or if both are the
     /// same queue.
     pub fn wake_all(&mut self, list: P, queue: P) -> Option<()>
-        ensures { AppendsList A.state A.interlinks self.old (P.key queue) (P.key list) result
+        ensures { JoinsLists A.state A.interlinks self.old (P.key queue) (P.key list) result
             self.new }
     {
-        self.lists.append(queue, list)
+        self.lists.join(queue, list)
     }
 }
 

@@ -1,15 +1,15 @@
 use Rattle.std.proofs.Common.{Some, Ok, refl}
-use Rattle.linked_lists.specs.LinkedLists.{SplitsOff}
+use Rattle.linked_lists.specs.LinkedLists.{SplitsList}
 use Rattle.linked_lists.proofs.ListLemmas.{each_of_all}
-use Rattle.linked_lists.proofs.SplitLemmas.{splits_off, each_split}
-use Rattle.linked_lists.proofs.linked_lists.LinkedLists.split_off.Given.{Over}
-use Rattle.linked_lists.proofs.linked_lists.LinkedLists.split_off.Goals.{After-splice_after}
-use Rattle.linked_lists.proofs.linked_lists.LinkedLists.split_off.Goals as goal
+use Rattle.linked_lists.proofs.SplitLemmas.{splits_list, each_split}
+use Rattle.linked_lists.proofs.linked_lists.LinkedLists.split_at.Given.{Over}
+use Rattle.linked_lists.proofs.linked_lists.LinkedLists.split_at.Goals.{After-splice_after}
+use Rattle.linked_lists.proofs.linked_lists.LinkedLists.split_at.Goals as goal
 
-split : (g : Over) (c : After-splice_after g) → SplitsOff g.A.ArenaTrait.state g.A.ChainArenaTrait.interlinks g.P.PtrKey.key g.P.Inx.InxKey.greatest c.args.self.now c.args.p (Ok (Some c.in_ok-q.q)) c.splice_after.new.self
+split : (g : Over) (c : After-splice_after g) → SplitsList g.A.ArenaTrait.state g.A.ChainArenaTrait.interlinks g.P.PtrKey.key g.P.Inx.InxKey.greatest c.args.self.now c.args.p (Ok (Some c.in_ok-q.q)) c.splice_after.new.self
 split g c =
     let started = rw (← c.self.view_is) at c.in_ok-q.ensures.outcome.outcome in
-    splits_off g.A.ArenaTrait.state g.A.ChainArenaTrait.interlinks c.args.self.now c.self.inside.arena c.splice_after.new.self g.P.PtrKey.key g.P.Inx.InxKey.greatest c.args.p c.in_ok-q.q c.end_of_list_of-last.result
+    splits_list g.A.ArenaTrait.state g.A.ChainArenaTrait.interlinks c.args.self.now c.self.inside.arena c.splice_after.new.self g.P.PtrKey.key g.P.Inx.InxKey.greatest c.args.p c.in_ok-q.q c.end_of_list_of-last.result
     (c.if-not-is_item.ensures.0 refl) started.0 started.1 c.end_of_list_of-last.ensures.valid c.end_of_list_of-last.ensures.last c.splice_after.result c.splice_after.ensures.outcome
 
 pub returns : goal.returns
