@@ -1,4 +1,4 @@
--- The effect of each step on slots on the model of the arena.
+-- Steps on slots, in the arena's model.
 use Rattle.std.proofs.Common.{◌≡◌, ℕ, ◌+◌, ◌-◌, ◌<◌, List, [], ◌∷◌, ◌++◌, map, Option, None, Some, refl, ap, sym, ◌∙◌, subst, arith}
 use Rattle.std.specs.Prelude.{slice_get, slice_set, count_by, is_some}
 use Rattle.std.proofs.lemmas.List.{map-set}

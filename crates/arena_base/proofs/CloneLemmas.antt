@@ -1,4 +1,4 @@
--- Copies whose values equal those of the source.
+-- Copies with equal values.
 use Rattle.std.proofs.Common.{◌≡◌, ◌↔◌, ℕ, ◌<◌, ◌≤◌, List, [], ◌∷◌, ◌++◌, length, map, Option, option_map, Some, Result, Err, IsOk, ◌⊎◌, inl, inr, arith, refl, ap, sym, ◌∙◌, subst}
 use Rattle.std.specs.Prelude.{is_ok}
 use Rattle.std.proofs.lemmas.Bool.{false≢true}
@@ -13,7 +13,6 @@ use Rattle.arena_base.specs.Copies.{Copied, Makes, CopiesBy, HasRefusable, HasSl
 use Rattle.arena_base.proofs.SlotCopyLemmas.{copy_viewed}
 
 module _ {F P T Gen : Type 0} (is_clone : T → T → Type 0) (equal : (x y : T) → is_clone x y → y ≡ x) (key : P → ℕ × Gen) where
-  -- A value is cloned, and the maker stays ready.
   abbrev pub Clones : F → P → T → T → F → Type 0
   Clones f p u t next = is_clone u t
 

@@ -84,7 +84,6 @@ pub few_entries : {Gen T : Type 0} (a : Arena Gen T) → length (entries a) ≤ 
 few_entries a = omega (arith, length-entries a, free_from-total a.slots 1)
 
 module _ {F P T Gen : Type 0} (g : Mut F (P × (MutBor T × (P × Unit {0}))) (Unit {0} × (MutBor T × Unit {0}))) (key : P → ℕ × Gen) (f : F) where
-  -- Compaction of an arena whose counter was set before.
   module _ (counter : Gen) (old mid new : Arena Gen T) (is_mid : mid ≡ with_counter old counter) (gathering : IsGathered g key f mid new) where
     abbrev values : List T
     values = gathering.values

@@ -1,4 +1,4 @@
--- The effect of each step on the model of detached slots.
+-- Steps on detached slots, in their model.
 use Rattle.std.proofs.Common.{◌≡◌, ◌≢◌, ℕ, zero, suc, ◌+◌, ◌<◌, List, [], ◌∷◌, length, map, Option, None, Some, refl, ap, sym, ◌∙◌, subst, arith}
 use Rattle.std.specs.Prelude.{true, false, IsSome, slice_index_or, slice_get, slice_set, swap}
 use Rattle.std.specs.Option.{option_map}

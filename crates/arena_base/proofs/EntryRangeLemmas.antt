@@ -1,4 +1,4 @@
--- The entries of slots from a position on, or up to one.
+-- Entries of slots from a position on, or up to one.
 use Rattle.std.proofs.Common.{◌≡◌, ℕ, zero, suc, ◌+◌, ◌-◌, ◌<◌, ◌≤◌, cond, List, [], ◌∷◌, ◌++◌, length, take, drop, Option, None, Some, refl, ap, sym, ◌∙◌, arith}
 use Rattle.std.specs.Prelude.{slice_index_or}
 use Rattle.std.specs.Option.{option_map}
@@ -8,13 +8,11 @@ use Rattle.arena_traits.specs.Arena.{slot_at}
 use Rattle.arena_traits.specs.Entries.{entries_from, key_at, first_key, last_key, IsNextEntry}
 use Rattle.arena_traits.specs.Advancers.{entries_at_or_above, entries_at_or_below}
 
--- The first, or else the second.
 abbrev pub first_of : {K : Type 0} → Option K → Option K → Option K
 first_of None rest = rest
 first_of (Some p) rest = Some p
 
 module _ {Gen T : Type 0} where
-  -- The entries of one slot.
   abbrev pub entry_list : ℕ → Option (Gen × T) → List ((ℕ × Gen) × T)
   entry_list i None = []
   entry_list i (Some e) = ((i, e.0), e.1) ∷ []

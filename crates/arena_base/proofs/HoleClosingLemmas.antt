@@ -1,5 +1,4 @@
--- The closing of holes one by one: passed entries are at the front, then free slots, then slots not
--- yet passed.
+-- Closing holes one by one: passed entries, then free slots, then slots not yet passed.
 use Rattle.std.proofs.Common.{◌≡◌, ◌≢◌, ℕ, zero, suc, ◌+◌, ◌<◌, ◌≤◌, List, [], ◌∷◌, ◌++◌, map, length, drop, Option, None, Some, refl, ap, sym, ◌∙◌, subst, append_assoc, arith}
 use Rattle.std.specs.Prelude.{replicate, slice_index_or, slice_set, IsSome}
 use Rattle.std.specs.Option.{option_map}
@@ -126,14 +125,13 @@ value_there : {Gen T : Type 0} (o : Option (Gen × T)) (t : T) (e : Gen × T) �
 value_there None t e is there = cc
 value_there (Some d) t e is there = cc
 
--- A visit as an entry, before and after.
 abbrev pub before_visit : {P T Gen : Type 0} → (P → ℕ × Gen) → Visit P T → (ℕ × Gen) × T
 before_visit key v = (key v.from, v.value)
 
 abbrev pub after_visit : {P T Gen : Type 0} → (P → ℕ × Gen) → Visit P T → (ℕ × Gen) × T
 after_visit key v = (key v.to, v.left)
 
--- The state of the closing: the slots up to `k` are passed, and `count` entries visited.
+-- The slots up to `k` are passed, and `count` entries visited.
 pub record IsClosing {F P T Gen : Type 0} (g : Mut F (P × (MutBor T × (P × Unit {0}))) (Unit {0} × (MutBor T × Unit {0}))) (key : P → ℕ × Gen) (generation : Gen) (first : F) (old : List (Option (Gen × T))) (k count : ℕ) (f : F) (slots : List (Option (Gen × T))) : Type 0 where
   pub visits : List (Visit P T)
   pub values : List T
@@ -191,7 +189,6 @@ module _ {F P T Gen : Type 0} (g : Mut F (P × (MutBor T × (P × Unit {0}))) (U
           passed = omega (arith, c.passed);
         })
 
-    -- The entry of the next slot is moved to the end of the front.
     module _ (from to : ℕ) (was : Gen) (mid : List (Option (Gen × T))) (at_from : from ≡ k + 1) (at_to : to ≡ count + 1) (returned : Some was ≡ option_map (λ (e : Gen × T). e.0) (slot_at slots from))
         (placed : mid ≡ with_slot (with_slot slots from (slot_at slots to)) to (option_map (λ (e : Gen × T). (generation, e.1)) (slot_at slots from))) where
       moved_entry : (e : Gen × T) × (slot_at slots from ≡ Some e) × (e.0 ≡ was)
@@ -244,7 +241,6 @@ module _ {F P T Gen : Type 0} (g : Mut F (P × (MutBor T × (P × Unit {0}))) (U
             passed = omega (arith, c.passed);
           })
 
-  -- When all slots are passed, each entry was visited once.
   module _ (k count : ℕ) (f : F) (slots : List (Option (Gen × T))) (c : IsClosing g key generation first old k count f slots) (all : k ≡ length old) where
     nothing_left : drop k old ≡ []
     nothing_left = drop_all k old (omega (arith, all))

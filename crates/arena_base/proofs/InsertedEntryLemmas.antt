@@ -1,4 +1,4 @@
--- An insertion in an arena, as the traits state it.
+-- Insertions, as the traits state them.
 use Rattle.std.proofs.Common.{◌≡◌, ℕ, ◌+◌, length, Option, Some, Result, Ok, Err, ap, sym, ◌∙◌, arith}
 use Rattle.arena_core.specs.declared.errors.ReallocationError.{ReallocationError}
 use Rattle.arena_traits.specs.Arena.{Arena, IsListed, next_index, insert_next, with_capacity_of, without_first}

@@ -1,4 +1,4 @@
--- Trimming of slots of which exactly the first `n` are entries.
+-- Trimming to the first `n` slots, exactly the entries.
 use Rattle.std.proofs.Common.{◌≡◌, ℕ, zero, suc, ◌<◌, ◌≤◌, cond, List, [], ◌∷◌, length, map, take, Option, None, Some, refl, ap, sym, ◌∙◌, arith}
 use Rattle.std.specs.Prelude.{true, false, IsSome, count_by, is_some, slice_index_or, slice_get}
 use Rattle.std.proofs.lemmas.List.{length-take}

@@ -1,4 +1,4 @@
--- The copying of slots one by one: the values made so far, and the slots not yet copied.
+-- Copying slots one by one.
 use Rattle.std.proofs.Common.{◌≡◌, ℕ, zero, suc, ◌+◌, ◌≤◌, List, [], ◌∷◌, ◌++◌, map, length, length-append, drop, Option, None, Some, Result, Ok, Err, OnOk, OnErr, ◌⊎◌, inl, inr, refl, ap, sym, ◌∙◌, subst, append_assoc, arith}
 use Rattle.std.specs.Prelude.{slice_get, min}
 use Rattle.std.specs.List.{FoldsTo}
@@ -25,14 +25,13 @@ entries_from-push [] i j slot at = let same : i ≡ j = omega (arith, at) in ap 
 entries_from-push (None ∷ slots) i j slot at = entries_from-push slots (suc i) j slot (omega (arith, at))
 entries_from-push (Some e ∷ slots) i j slot at = ap (λ es. ((i, e.0), e.1) ∷ es) (entries_from-push slots (suc i) j slot (omega (arith, at)))
 
--- A value that was made, as an entry.
 abbrev pub before_call : {P U T Gen : Type 0} → (P → ℕ × Gen) → Copied P U T → (ℕ × Gen) × U
 before_call key c = (key c.pointer, c.value)
 
 abbrev pub after_call : {P U T Gen : Type 0} → (P → ℕ × Gen) → Copied P U T → (ℕ × Gen) × T
 after_call key c = (key c.pointer, c.returned)
 
--- The state of the copying: the slots up to `k` are copied.
+-- The slots up to `k` are copied.
 pub record IsCopying {F P U T Inx Gen Word : Type 0} (makes : F → P → U → T → F → Type 0) (key : P → ℕ × Gen) (first : F) (old : List (ArenaSlot P U Inx Gen Word)) (k : ℕ) (f : F) (slots : List (ArenaSlot P T Inx Gen Word)) : Type 0 where
   pub calls : List (Copied P U T)
   pub in_turn : FoldsTo (Makes makes) first calls f
@@ -115,7 +114,6 @@ module _ {F P U T Inx Gen Word : Type 0} (makes : F → P → U → T → F → 
       refusable = refused;
     }
 
-    -- The state after all slots are copied.
     module _ (all : k ≡ length old) where
       nothing_left : drop k old ≡ []
       nothing_left = drop_all k old (omega (arith, all))
@@ -189,7 +187,6 @@ copy_viewed {T = T} {Gen = Gen} makes key f last source old new has made =
       maximum = ap (λ (s : Arena Gen T). s.maximum) has.state;
     }
 
--- Values made by a maker are made by its mapped states.
 module _ {V F P U T : Type 0} (makes : V → P → U → T → V → Type 0) (others : F → P → U → T → F → Type 0) (see : V → F)
     (step : (v : V) (p : P) (u : U) (t : T) (w : V) → makes v p u t w → others (see v) p u t (see w)) where
   pub made_by : {Gen : Type 0} (key : P → ℕ × Gen) (f last : V) (source : List ((ℕ × Gen) × U)) (copy : List ((ℕ × Gen) × T))

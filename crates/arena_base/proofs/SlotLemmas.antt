@@ -1,4 +1,4 @@
--- Reads and writes of slots, by position and by index.
+-- Reads and writes of slots.
 use Rattle.std.proofs.Common.{◌≡◌, ℕ, zero, suc, ◌+◌, ◌<◌, List, [], ◌∷◌, ◌++◌, length, map, Option, None, Some, refl, ap, sym, ◌∙◌, subst, arith, inl, inr, ◌⊎◌}
 use Rattle.std.specs.Prelude.{IsSome, true, false, count_by, is_some, cond, slice_index_or, slice_get, slice_set}
 use Rattle.std.proofs.lemmas.List.Sums.{sum_by-cons}
@@ -66,7 +66,6 @@ module _ {P T Inx Gen Word : Type 0} where
       let at : suc k ≡ n = omega (arith, is) in
       subst (λ i. slot_at (map entry_of slots) i ≡ entry_in (slice_get slots k)) at (slice_index_or-map slots k)
 
-  -- The number of entries in a slot, 0 or 1.
   abbrev pub taken : ArenaSlot P T Inx Gen Word → ℕ
   taken slot = cond (is_some (entry_of slot)) 1 0
 

@@ -1,4 +1,4 @@
--- The entries and the freed list of an arena partition the indexes of its slots.
+-- Entries and freed list partition the indexes of the slots.
 use Rattle.std.proofs.Common.{◌≡◌, ℕ, zero, suc, ◌+◌, ◌<◌, ◌≤◌, List, [], ◌∷◌, ◌++◌, length, map, Option, None, Some, refl, ap, sym, ◌∙◌, arith, rules, inl, inr, ◌⊎◌}
 use Rattle.std.specs.Prelude.{slice_index_or, All, min}
 use Rattle.std.proofs.lemmas.List.Elements.{All-nil, All-cons}

@@ -1,4 +1,4 @@
--- Slots equal apart from their values have the same freed list, and are equally sound.
+-- Slots that differ only in values are equally sound.
 use Rattle.std.proofs.Common.{◌≡◌, ℕ, zero, suc, cond, List, [], ◌∷◌, map, length, Option, None, Some, refl, ap, sym, ◌∙◌, arith}
 use Rattle.std.specs.Prelude.{slice_get, is_some}
 use Rattle.std.specs.Option.{option_map}

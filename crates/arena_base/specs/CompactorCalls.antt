@@ -1,4 +1,3 @@
--- The effects of the calls on a compactor.
 use Rattle.std.specs.Prelude.{◌≡◌, ℕ, ◌+◌, ◌≤◌, length, Option, OnSome, IfNone}
 use Rattle.std.specs.Option.{option_map}
 use Rattle.std.specs.Fn.{Mut}
@@ -12,7 +11,7 @@ use Rattle.arena_base.specs.declared.compactor.Compactor.{Compactor}
 use Rattle.arena_base.specs.declared.compactor.Work.{Work}
 
 module _ {P T S Inx Gen Word : Type 0} where
-  -- The slots of an arena are taken out of it into a compactor, which has counted nothing.
+  -- The slots are taken into a compactor, which has counted nothing.
   abbrev pub TakesSlots : Option ℕ → ℕ → MutBor (Arena Gen T) → Compactor P T S Inx Gen Word → Type 0
   TakesSlots maximum greatest old result = record {
     same_reference : result.arena.ghost_name ≡ old.ghost_name;
@@ -23,8 +22,7 @@ module _ {P T S Inx Gen Word : Type 0} where
     fits : length old.now.slots ≤ greatest;
   }
 
-  -- Two slots are swapped, the entry from the first gets a generation, and one placement is
-  -- counted.
+  -- Two slots are swapped, the first's entry gets a generation, and a placement is counted.
   abbrev pub PlacesEntry : ℕ → ℕ → Gen → (old new : Compactor P T S Inx Gen Word) → Type 0
   PlacesEntry from to generation old new = record {
     same_reference : new.arena.ghost_name ≡ old.arena.ghost_name;
@@ -34,7 +32,7 @@ module _ {P T S Inx Gen Word : Type 0} where
     touched : new.touched ≡ old.touched;
   }
 
-  -- The slots of a compactor are returned to the arena, and what was counted is returned.
+  -- The slots are returned to the arena, and the counts reported.
   abbrev pub ReturnsSlots : ℕ → Compactor P T S Inx Gen Word → Work → Arena Gen T → Type 0
   ReturnsSlots greatest old result new = record {
     arena : new ≡ arena_after_return greatest old.arena.now old.detached;
@@ -42,8 +40,7 @@ module _ {P T S Inx Gen Word : Type 0} where
     touched : result.touched ≡ old.touched;
   }
 
-  -- The entry at an index, if there is one, is moved to another and gets a generation, and its old
-  -- generation is returned.
+  -- The entry at an index, if any, is moved and gets a generation; its old one is returned.
   abbrev pub MovesEntry : ℕ → ℕ → Gen → Compactor P T S Inx Gen Word → Option Gen → Compactor P T S Inx Gen Word → Type 0
   MovesEntry from to generation old result new = record {
     same_reference : new.arena.ghost_name ≡ old.arena.ghost_name;
@@ -52,8 +49,7 @@ module _ {P T S Inx Gen Word : Type 0} where
     none : IfNone result ((new.detached ≡ old.detached) × (new.arena.now ≡ with_touch old.arena.now));
   }
 
--- The entries are moved to the first slots, get a generation and are visited by the closure, and
--- their number is returned.
+-- The entries are moved to the first slots, and visited.
 abbrev pub CompactsEntries : {F Q P T S Inx Gen Word : Type 0} → Mut F (Q × (MutBor T × (Q × Unit {0}))) (Unit {0} × (MutBor T × Unit {0})) → (Q → ℕ × Gen) → Gen → F → Compactor P T S Inx Gen Word → ℕ → Compactor P T S Inx Gen Word → Type 0
 CompactsEntries g key generation f old result new = record {
   same_reference : new.arena.ghost_name ≡ old.arena.ghost_name;

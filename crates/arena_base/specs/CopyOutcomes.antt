@@ -1,4 +1,3 @@
--- The outcomes of copies of an arena, with values by a maker or a closure.
 use Rattle.std.specs.Prelude.{◌≡◌, ℕ, ◌≤◌, ◌↔◌, ◌⊎◌, map, List, length, Option, Result, Err, IsOk, IfOk, OnOk, OnErr}
 use Rattle.std.specs.Borrow.{Bor}
 use Rattle.std.specs.Fn.{Mut}
@@ -13,7 +12,7 @@ use Rattle.arena_base.specs.Slots.{entry_of, without_values, KeepsBounds}
 use Rattle.arena_base.specs.declared.slot.ArenaSlot.{ArenaSlot}
 
 module _ {F P U T : Type 0} (is_ready : F → Type 0) (makes : F → P → U → T → F → Type 0) (may_refuse : P → U → Type 0) where
-  -- The outcome of one call of a maker: a value is made, or refused.
+  -- A maker's call makes a value, or refuses it.
   abbrev pub MakesOrRefuses : F → P → U → Result T AllocError → F → Type 0
   MakesOrRefuses old p u result new = record {
     made : IfOk result (λ t. makes old p u t new);
@@ -21,7 +20,7 @@ module _ {F P U T : Type 0} (is_ready : F → Type 0) (makes : F → P → U →
     refused : OnErr result (may_refuse p u);
   }
 
-  -- The outcome of a copy of slots into an empty stack: each is copied, or a value is refused.
+  -- Slots are copied into an empty stack, or a value is refused.
   abbrev pub CopiesSlots : {S Q Inx Gen Word : Type 0} → (S → List (ArenaSlot Q T Inx Gen Word)) → (S → ℕ) → (S → Option ℕ) → (P → ℕ × Gen) → F → List (ArenaSlot Q U Inx Gen Word) → S → Result Unit AllocError × F → S → Type 0
   CopiesSlots items capacity maximum key values source old result new = record {
     alike : OnOk result.0 (without_values (items new) ≡ without_values source);
@@ -32,7 +31,7 @@ module _ {F P U T : Type 0} (is_ready : F → Type 0) (makes : F → P → U →
   }
 
   module _ {Gen : Type 0} (key : P → ℕ × Gen) (greatest : ℕ) (values : F) (source : Arena Gen U) where
-    -- The outcome of a copy of the source into an arena.
+    -- The source is copied into an arena, or refused.
     abbrev pub CopiesArena : (ℕ → Option ℕ → ℕ → ℕ → Type 0) → Arena Gen T → Result Unit ReallocationError × F → Arena Gen T → Type 0
     CopiesArena may_reach old result new = record {
       within : length source.slots ≤ old.capacity → (IsOk result.0 ⊎ HasRefusable may_refuse key (entries source)) × (new.capacity ≡ old.capacity);
@@ -47,7 +46,7 @@ module _ {F P U T : Type 0} (is_ready : F → Type 0) (makes : F → P → U →
       err : OnErr result.0 (((new ≡ old) × (result.1 ≡ values)) ⊎ (HasRefusable may_refuse key (entries source) × IsAbandonedCopy old new));
     }
 
-    -- The outcome of a copy of the source into an arena with a view.
+    -- The source is copied into an arena with a view, or refused.
     abbrev pub CopiesView : {A : Type 0} → (A → ArenaView Gen T) → (Arena Gen U → A → A → Type 0) → A → Result Unit ReallocationError × F → A → Type 0
     CopiesView view copies old result new = record {
       within : length source.slots ≤ (view old).capacity → (IsOk result.0 ⊎ HasRefusable may_refuse key (entries source)) × ((view new).capacity ≡ (view old).capacity);
@@ -61,7 +60,7 @@ module _ {F P U T : Type 0} (is_ready : F → Type 0) (makes : F → P → U →
       implementation : OnOk result.0 (copies source old new);
     }
 
--- The outcome of a copy of a source into an arena with a view, with values that a closure returns.
+-- A source is copied with a closure's values, or refused.
 abbrev pub CopiesViewWith : {F P U T Gen A : Type 0} → Mut F (P × (Bor U × Unit {0})) T → (P → ℕ × Gen) → ℕ → F → Arena Gen U → (A → ArenaView Gen T) → (Arena Gen U → A → A → Type 0) → A → Result Unit ReallocationError → A → Type 0
 CopiesViewWith g key greatest f source view copies old result new = record {
   within : length source.slots ≤ (view old).capacity → IsOk result × ((view new).capacity ≡ (view old).capacity);

@@ -1,21 +1,18 @@
--- The slots of an arena while entries are moved, and the arena before and after.
 use Rattle.std.specs.Prelude.{◌≡◌, ℕ, suc, ◌+◌, ◌-◌, ◌^◌, ◌≤◌, ◌<◌, min, List, [], ◌∷◌, Option, None, Some, IsSome}
 use Rattle.std.specs.Option.{option_map}
 use Rattle.std.specs.Borrow.{Bor}
 use Rattle.arena_traits.specs.Arena.{Arena, slot_at, with_slot}
 
--- The slots that a compactor holds, with the capacity and the maximum of their stack.
+-- The slots that a compactor holds, with their stack's capacity and maximum.
 pub record DetachedView (Gen T : Type 0) : Type 0 where
   pub slots : List (Option (Gen × T))
   pub stack_capacity : ℕ
   pub maximum : Option ℕ
 
--- A saturating count of work, plus one.
 abbrev pub saturating_increment : ℕ → ℕ
 saturating_increment n = min (n + 1) (2 ^ 128 - 1)
 
 module _ {X : Type 0} where
-  -- A slot before trimmed slots, removed if it is free and last.
   abbrev pub before_cut : Option X → List (Option X) → List (Option X)
   before_cut None [] = []
   before_cut None (slot ∷ slots) = None ∷ slot ∷ slots
@@ -26,7 +23,7 @@ module _ {X : Type 0} where
   without_free_end [] = []
   without_free_end (slot ∷ slots) = before_cut slot (without_free_end slots)
 
-  -- The ascending indexes of the free slots, where the first slot has index `i`.
+  -- The ascending indexes of the free slots, from first index `i`.
   abbrev pub free_from : ℕ → List (Option X) → List ℕ
   free_from i [] = []
   free_from i (None ∷ slots) = i ∷ free_from (suc i) slots
@@ -38,19 +35,18 @@ pub record IsPacked {X : Type 0} (slots : List (Option X)) (n : ℕ) : Type 0 wh
   pub free : (i : ℕ) → n < i → slot_at slots i ≡ None
 
 module _ {Gen T : Type 0} where
-  -- An entry read through borrows of both its parts.
+  -- An entry read through borrows of both parts.
   abbrev pub borrowed_parts : Bor Gen × Bor T → Gen × T
   borrowed_parts e = (e.0.now, e.1.now)
 
   abbrev pub detached_of : Arena Gen T → DetachedView Gen T
   detached_of a = record { slots = a.slots; stack_capacity = a.stack_capacity; maximum = a.maximum }
 
-  -- The arena without its slots: empty over a new stack, with its counter and totals.
+  -- The arena without its slots, over a new stack.
   abbrev pub arena_without_slots : Option ℕ → Arena Gen T → Arena Gen T
   arena_without_slots maximum a = record a { slots = []; freed = []; capacity = 0; stack_capacity = 0; maximum = maximum }
 
-  -- The arena after slots are returned: free slots at the end are removed, and the others listed by
-  -- ascending index.
+  -- Slots are returned without free ones at the end; the others are listed by ascending index.
   abbrev pub arena_after_return : ℕ → Arena Gen T → DetachedView Gen T → Arena Gen T
   arena_after_return greatest a detached = record a {
     slots = without_free_end detached.slots;
@@ -66,18 +62,16 @@ module _ {Gen T : Type 0} where
   abbrev pub with_placement : Arena Gen T → Arena Gen T
   with_placement a = record a { placed = a.placed + 1 }
 
-  -- The slots at two indexes are swapped, and the entry from the first gets a generation.
+  -- Two slots are swapped, and the first's entry gets a generation.
   abbrev pub with_placed_entry : DetachedView Gen T → ℕ → ℕ → Gen → DetachedView Gen T
   with_placed_entry detached from to g = record detached {
     slots = with_slot (with_slot detached.slots from (slot_at detached.slots to)) to (option_map (λ e. (g, e.1)) (slot_at detached.slots from));
   }
 
-  -- The slots with the value at an index replaced, if it has an entry.
+  -- The slots with a value replaced, if there is an entry.
   abbrev pub detached_with_value : DetachedView Gen T → ℕ → T → DetachedView Gen T
   detached_with_value detached i t = record detached { slots = with_slot detached.slots i (option_map (λ e. (e.0, t)) (slot_at detached.slots i)) }
 
-  -- After an access the detached slots are unchanged, or have the written value, and one touch is
-  -- counted.
   module _ {C : Type 0} (detached : C → DetachedView Gen T) (touches : C → C → Type 0) (old : C) where
     abbrev pub IsTouched : C → Type 0
     IsTouched new = (detached new ≡ detached old) × touches old new

@@ -1,4 +1,3 @@
--- Slots after holes are closed: the entries are at the front.
 use Rattle.std.specs.Prelude.{◌≡◌, ℕ, ◌+◌, List, [], ◌++◌, map, replicate, length, Option, None, Some}
 use Rattle.std.specs.Fn.{Mut}
 use denote.Ref.{MutBor}
@@ -8,24 +7,21 @@ use Rattle.arena_base.specs.DetachedSlots.{DetachedView}
 use Rattle.arena_traits.specs.Compressions.{VisitsAll}
 
 module _ {Gen T : Type 0} where
-  -- Entries of one generation with these values, followed by `slots`.
+  -- Entries of one generation with these values, then `slots`.
   abbrev pub with_front : Gen → List T → List (Option (Gen × T)) → List (Option (Gen × T))
   with_front g values slots = map (λ t. Some (g, t)) values ++ slots
 
-  -- The slots after holes are closed, as many as before: entries of generation `g`, and then free
-  -- slots.
+  -- Entries of generation `g`, then free slots, as many as before.
   pub record AreClosed (g : Gen) (old new : DetachedView Gen T) : Type 0 where
     pub values : List T
     pub free : ℕ
     pub detached : new ≡ record old { slots = with_front g values (replicate free None) }
     pub same_length : length values + free ≡ length old.slots
 
-  -- The arena after more placements and touches.
   abbrev pub with_totals : Arena Gen T → ℕ → ℕ → Arena Gen T
   with_totals a placements touches = record a { placed = a.placed + placements; touched = a.touched + touches }
 
-  -- The arena whose slots are exactly `values`, each placed once with the counter as its
-  -- generation. Each slot was read once, and each value lent once.
+  -- The slots are `values`, each placed, read and lent once.
   abbrev pub arena_of_values : Arena Gen T → List T → Arena Gen T
   arena_of_values a values = record a {
     slots = with_front a.counter values [];
@@ -34,7 +30,7 @@ module _ {Gen T : Type 0} where
     touched = a.touched + (length a.slots + length values);
   }
 
--- The entries are compacted, and are as the closure left them.
+-- The entries are compacted, as the closure left them.
 pub record IsGathered {F P T Gen : Type 0} (g : Mut F (P × (MutBor T × (P × Unit {0}))) (Unit {0} × (MutBor T × Unit {0}))) (key : P → ℕ × Gen) (f : F) (old new : Arena Gen T) : Type 0 where
   pub values : List T
   pub arena : new ≡ arena_of_values old values

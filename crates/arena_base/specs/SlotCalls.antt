@@ -1,12 +1,10 @@
--- The effects of the calls that write one slot of a stack, or list its free slots.
 use Rattle.std.specs.Prelude.{◌≡◌, ℕ, ◌+◌, map, List, slice_get, slice_set, Option, Some, OnSome, IfNone}
 use Rattle.arena_core.specs.declared.packed_option.PackedOption.{PackedOption}
 use Rattle.arena_base.specs.DetachedSlots.{free_from}
 use Rattle.arena_base.specs.Slots.{entry_of, entry_in, with_generation_at, allocated_slot, free_slot, freed_slot, IsSound, KeepsBounds}
 use Rattle.arena_base.specs.declared.slot.ArenaSlot.{ArenaSlot}
 
--- The entry of a slot, if it has one, is removed and returned, and the slot names the freed slot
--- `next`.
+-- The entry of a slot, if any, is removed; the slot names the freed slot `next`.
 abbrev pub VacatesSlot : {P T Inx Gen Word : Type 0} → PackedOption Inx Word → ArenaSlot P T Inx Gen Word → Option (Gen × T) → ArenaSlot P T Inx Gen Word → Type 0
 VacatesSlot next old result new = record {
   entry : result ≡ entry_of old;
@@ -14,14 +12,13 @@ VacatesSlot next old result new = record {
 }
 
 module _ {S P T Inx Gen Word : Type 0} (items : S → List (ArenaSlot P T Inx Gen Word)) (capacity : S → ℕ) (maximum : S → Option ℕ) where
-  -- The slot at position k is written.
   abbrev pub WritesSlot : ℕ → ArenaSlot P T Inx Gen Word → S → S → Type 0
   WritesSlot k slot old new = record {
     items : items new ≡ slice_set (items old) k slot;
     bounds : KeepsBounds capacity maximum old new;
   }
 
-  -- The entry at position k, if there is one, gets a generation.
+  -- The entry at position k, if any, gets a generation.
   abbrev pub RegeneratesSlot : ℕ → Gen → S → S → Type 0
   RegeneratesSlot k generation old new = record {
     items : items new ≡ with_generation_at (items old) k generation;
@@ -43,7 +40,7 @@ module _ {S P T Inx Gen Word : Type 0} (items : S → List (ArenaSlot P T Inx Ge
     bounds : KeepsBounds capacity maximum old new;
   }
 
-  -- The free slot at position k gets an entry, and the freed index that it named is returned.
+  -- The free slot at position k gets an entry, and the freed index in it is returned.
   abbrev pub FillsSlot : ℕ → Gen → T → S → PackedOption Inx Word → S → Type 0
   FillsSlot k generation t old result new = record {
     was : slice_get (items old) k ≡ Some (free_slot result);
@@ -51,7 +48,7 @@ module _ {S P T Inx Gen Word : Type 0} (items : S → List (ArenaSlot P T Inx Ge
     bounds : KeepsBounds capacity maximum old new;
   }
 
-  -- The entry at position k, if there is one, is removed and returned, and its slot is free.
+  -- The entry at position k, if any, is removed and returned, and its slot is free.
   abbrev pub VacatesSlotAt : ℕ → PackedOption Inx Word → S → Option (Gen × T) → S → Type 0
   VacatesSlotAt k next old result new = record {
     entry : result ≡ entry_in (slice_get (items old) k);
@@ -69,8 +66,7 @@ module _ {S P T Inx Gen Word : Type 0} (items : S → List (ArenaSlot P T Inx Ge
       bounds : KeepsBounds capacity maximum old new;
     }
 
-    -- The free slots are listed by ascending index, and the number of entries and the first free
-    -- index are returned.
+    -- The free slots are listed by ascending index, and the entries counted.
     abbrev pub ListsFreeSlots : ℕ → S → ℕ × PackedOption Inx Word → S → Type 0
     ListsFreeSlots greatest old result new = record {
       entries : map entry_of (items new) ≡ map entry_of (items old);

@@ -1,5 +1,3 @@
--- The representation of an arena in its slots. Public clauses cite `entry_of` and
--- `ThreadsFreeList`.
 use Rattle.std.specs.Prelude.{◌≡◌, ℕ, zero, suc, ◌+◌, ◌≤◌, ⊤, List, [], ◌∷◌, map, min, length, count_by, is_some, slice_get, Option, None, Some}
 use Rattle.arena_core.specs.declared.packed_option.PackedOption.{PackedOption}
 use Rattle.arena_base.specs.DetachedSlots.{DetachedView}
@@ -7,7 +5,6 @@ use Rattle.arena_traits.specs.Arena.{Arena, IsMember, AreDistinct}
 use Rattle.arena_base.specs.declared.slot.ArenaSlot.{ArenaSlot}
 use Rattle.arena_base.specs.declared.slot.ArenaSlot.TheVariants.{Allocated, Free}
 
--- The item at an index; none at index 0.
 abbrev pub item_at : {X : Type 0} → List X → ℕ → Option X
 item_at items zero = None
 item_at items (suc k) = slice_get items k
@@ -22,12 +19,11 @@ module _ {P T Inx Gen Word : Type 0} where
   entry_of (Allocated generation t) = Some (generation, t)
   entry_of (Free next) = None
 
-  -- The slot with its value replaced, if it has one.
+  -- The slot with its value, if any, replaced.
   abbrev pub with_value_in : ArenaSlot P T Inx Gen Word → T → ArenaSlot P T Inx Gen Word
   with_value_in (Allocated generation t) w = Allocated generation w
   with_value_in (Free next) w = Free next
 
-  -- The slot with its generation replaced, if it has one.
   abbrev pub with_generation_in : ArenaSlot P T Inx Gen Word → Gen → ArenaSlot P T Inx Gen Word
   with_generation_in (Allocated generation t) g = Allocated g t
   with_generation_in (Free next) g = Free next
@@ -38,12 +34,10 @@ module _ {P T Inx Gen Word : Type 0} where
   abbrev pub free_slot : PackedOption Inx Word → ArenaSlot P T Inx Gen Word
   free_slot next = Free next
 
-  -- The slot with its entry, if it has one, removed.
   abbrev pub freed_slot : ArenaSlot P T Inx Gen Word → PackedOption Inx Word → ArenaSlot P T Inx Gen Word
   freed_slot (Allocated generation t) next = Free next
   freed_slot (Free other) next = Free other
 
-  -- The entry of an optional slot.
   abbrev pub entry_in : Option (ArenaSlot P T Inx Gen Word) → Option (Gen × T)
   entry_in None = None
   entry_in (Some slot) = entry_of slot
@@ -54,24 +48,21 @@ module _ {P T Inx Gen Word : Type 0} where
   IsFree (Some (Allocated generation t)) = ⊥
   IsFree (Some (Free next)) = ⊤
 
-  -- The slots with the generation at a position replaced.
   abbrev pub with_generation_at : List (ArenaSlot P T Inx Gen Word) → ℕ → Gen → List (ArenaSlot P T Inx Gen Word)
   with_generation_at [] k g = []
   with_generation_at (slot ∷ slots) zero g = with_generation_in slot g ∷ slots
   with_generation_at (slot ∷ slots) (suc k) g = slot ∷ with_generation_at slots k g
 
-  -- The index of the next free slot that a slot names.
+  -- The next free index that a slot names.
   abbrev pub next_free : (PackedOption Inx Word → Option ℕ) → Option (ArenaSlot P T Inx Gen Word) → Option ℕ
   next_free number None = None
   next_free number (Some (Allocated generation t)) = None
   next_free number (Some (Free next)) = number next
 
--- The slot without its value, if it has one.
 abbrev pub without_value : {P T Inx Gen Word : Type 0} → ArenaSlot P T Inx Gen Word → ArenaSlot P (Unit {0}) Inx Gen Word
 without_value (Allocated generation t) = Allocated generation tt
 without_value (Free next) = Free next
 
--- The slots without their values.
 abbrev pub without_values : {P T Inx Gen Word : Type 0} → List (ArenaSlot P T Inx Gen Word) → List (ArenaSlot P (Unit {0}) Inx Gen Word)
 without_values slots = map without_value slots
 
@@ -82,12 +73,12 @@ module _ {P T Inx Gen Word : Type 0} (number : PackedOption Inx Word → Option 
   freed_from (suc most) None = []
   freed_from (suc most) (Some n) = n ∷ freed_from most (next_free number (item_at slots n))
 
-  -- The list is that of the freed indexes from `head`: each names the next.
+  -- The freed indexes from `head`, each naming the next.
   abbrev pub IsFreeList : List ℕ → PackedOption Inx Word → Type 0
   IsFreeList [] head = number head ≡ None
   IsFreeList (n ∷ ns) head = (next : PackedOption Inx Word) × (number head ≡ Some n) × (item_at slots n ≡ Some (Free next)) × IsFreeList ns next
 
-  -- The list threads the free slots: each one's slot names the next.
+  -- Each free slot in the list names the next.
   abbrev pub ThreadsFreeList : List ℕ → Type 0
   ThreadsFreeList freed = (head : PackedOption Inx Word) × IsFreeList freed head
 
@@ -100,7 +91,6 @@ module _ {P T Inx Gen Word : Type 0} (number : PackedOption Inx Word → Option 
     pub total : len + length freed ≡ length slots
     pub fits : length slots ≤ greatest
 
-  -- The freed list of all slots.
   abbrev pub freed_of : PackedOption Inx Word → List ℕ
   freed_of head = freed_from (length slots) (number head)
 
@@ -117,6 +107,5 @@ arena_of slots freed counter greatest capacity maximum placed touched = record {
   touched = touched;
 }
 
--- The slots that a compactor holds.
 abbrev pub detached_view : {P T Inx Gen Word : Type 0} → List (ArenaSlot P T Inx Gen Word) → ℕ → Option ℕ → DetachedView Gen T
 detached_view slots capacity maximum = record { slots = map entry_of slots; stack_capacity = capacity; maximum = maximum }

@@ -1,4 +1,3 @@
-// The advancer over the pointers of an arena, by ascending or descending index.
 ghost use Rattle.std.specs.Prelude.{◌≡◌};
 
 use crate::arena::Arena;
@@ -7,11 +6,9 @@ use arena_core::{PtrKey, SlotStack};
 use arena_traits::{Advancer, Cursor};
 use std::marker::PhantomData;
 
-/// An advancer over the valid pointers of an arena, by ascending or descending index.
+/// An advancer over valid pointers, ascending or descending.
 ///
-/// After its first `None` it returns only `None`.
-///
-/// Port of `PtrAdvancer`. One type serves the plain arena and the chain arena.
+/// Port of `PtrAdvancer`.
 #[derive(Drop)]
 pub struct PtrAdvancer<P> {
     cursor: Cursor,
@@ -19,7 +16,6 @@ pub struct PtrAdvancer<P> {
 }
 
 impl<P> PtrAdvancer<P> {
-    // Returns an advancer at a cursor.
     pub(crate) fn at(cursor: Cursor) -> Self
         ensures { result.cursor ≡ cursor }
     {

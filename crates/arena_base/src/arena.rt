@@ -1,4 +1,3 @@
-// The generational arena and its inherent functions.
 ghost use Rattle.std.specs.Prelude.{◌≡◌, [], min, ◌<◌, ◌+◌, ◌↔◌, IsSome, OnErr, Some, None, drop, take};
 ghost use Rattle.std.specs.Option.{option_map};
 ghost use Rattle.arena_core.specs.SlotStack.{IsBeyond};
@@ -23,12 +22,10 @@ use arena_traits::Cursor;
 use std::marker::Model;
 use std::mem;
 
-/// A generational arena: entries at indexes from 1, each with a generation, in a stack of slots.
+/// A generational arena, with entries at indexes from 1 in a stack of slots.
 ///
-/// An insertion reuses the index freed last; if none is free, the next index is the number of slots
-/// plus one. A single generation counter starts at two: an insertion gives it to the new entry, and
-/// a removal increments it. Insertion, lookup and removal take constant time, unless an insertion
-/// grows the arena; no clause states the time.
+/// An insertion reuses the index freed last, or else adds a slot. A removal increments the counter.
+/// Except for growth, insertion, lookup and removal take constant time (no clause states it).
 ///
 /// Port of `Arena`.
 #[derive(Drop)]
@@ -38,9 +35,7 @@ pub struct Arena<
     S: SlotStack<Item = ArenaSlot<P, T>> = HeapStack<ArenaSlot<P, T>>,
 > {
     pub(crate) slots: S,
-    // The number of entries.
     pub(crate) len: usize,
-    // The index to use next, if a slot is free.
     pub(crate) first_free: PackedInx<P::Inx>,
     pub(crate) counter: P::Gen,
     pub(crate) placed: Tally,
@@ -63,7 +58,6 @@ impl<P: PtrKey, T: Drop, S: SlotStack<Item = ArenaSlot<P, T>>> Model for Arena<P
 }
 
 impl<P: PtrKey, T: Drop, S: SlotStack<Item = ArenaSlot<P, T>>> Arena<P, T, S> {
-    // Returns an arena over an empty stack.
     pub(crate) fn over(slots: S) -> Self
         requires { S.items slots ≡ [] }
         ensures { result ≡ record (new_arena P.Gen.first (S.maximum slots)) {
@@ -82,21 +76,20 @@ impl<P: PtrKey, T: Drop, S: SlotStack<Item = ArenaSlot<P, T>>> Arena<P, T, S> {
         }
     }
 
-    /// Returns the counter: the generation of the next entry.
+    /// Returns the generation of the next entry.
     pub fn generation(&self) -> P::Gen
         ensures { result ≡ self.now.counter }
     {
         self.counter
     }
 
-    /// Sets the counter.
     pub fn set_generation(&mut self, counter: P::Gen)
         ensures { self.new ≡ with_counter self.old counter }
     {
         self.counter = counter;
     }
 
-    /// Increments the counter. Returns `GenerationOverflow` if it wrapped to two.
+    /// Increments the counter, and reports whether it wrapped to two.
     pub fn inc_generation(&mut self) -> InvalidationOption<()>
         ensures { IncrementsCounter P.Gen.following P.Gen.wraps self.old result self.new }
     {
@@ -105,7 +98,6 @@ impl<P: PtrKey, T: Drop, S: SlotStack<Item = ArenaSlot<P, T>>> Arena<P, T, S> {
         InvalidationOption::from_overflow(overflow, ())
     }
 
-    /// Returns the slots.
     pub fn backing(&self) -> &S
         ensures { IsBacking S.items S.capacity S.maximum P.Inx.packed_number P.Inx.greatest self.now
             result.now }
@@ -113,10 +105,7 @@ impl<P: PtrKey, T: Drop, S: SlotStack<Item = ArenaSlot<P, T>>> Arena<P, T, S> {
         &self.slots
     }
 
-    /// Inserts an entry at the next index, with the counter as its generation, and returns its
-    /// pointer; there must be capacity for it.
-    ///
-    /// No memory is allocated. Not in `triple_arena`.
+    /// Inserts an entry within the capacity, and returns its pointer.
     pub fn insert_next(&mut self, t: T) -> P
         requires { entry_count self.old < self.old.capacity }
         ensures ptr { P.key result ≡ (next_index self.old, self.old.counter) }
@@ -137,15 +126,13 @@ impl<P: PtrKey, T: Drop, S: SlotStack<Item = ArenaSlot<P, T>>> Arena<P, T, S> {
         p
     }
 
-    /// Inserts an entry at the next index, with the counter as its generation, and returns its
-    /// pointer.
-    ///
-    /// No memory is allocated.
+    /// Inserts an entry without growth, and returns its pointer.
     ///
     /// # Errors
     ///
-    /// `NotWithinCapacityError`: there are as many entries as the capacity. Nothing changes then,
-    /// and the value is dropped.
+    /// - `NotWithinCapacityError`: the arena is full.
+    ///
+    /// On error, nothing changes, and the value is dropped.
     pub fn insert_within_capacity(&mut self, t: T) -> Result<P, NotWithinCapacityError>
         ensures outcome { InsertsIfFree P.key self.old t result self.new }
         ensures err { OnErr result (self.new ≡ self.old) }
@@ -156,17 +143,12 @@ impl<P: PtrKey, T: Drop, S: SlotStack<Item = ArenaSlot<P, T>>> Arena<P, T, S> {
         Ok(self.insert_next(t))
     }
 
-    /// Inserts an entry at the next index, with the counter as its generation, and returns its
-    /// pointer.
-    ///
-    /// An arena with as many entries as its capacity grows first, as far as its stack does.
+    /// Inserts an entry, after growth if the arena is full, and returns its pointer.
     ///
     /// # Errors
     ///
-    /// - `BeyondMaxCapacity`: the growth needed is beyond the maximum.
-    /// - `AllocError`: the growth needed is beyond the greatest index, or an allocation failed.
-    ///
-    /// Nothing changes on error, and the value is dropped.
+    /// - `BeyondMaxCapacity`: the maximum is reached.
+    /// - `AllocError`: an allocation failed, or the greatest index is reached.
     pub fn insert_reallocating(&mut self, t: T) -> Result<P, ReallocationError>
         ensures outcome { InsertsGrowing S.may_reach P.Inx.greatest P.key self.old t result
             self.new }
@@ -178,14 +160,12 @@ impl<P: PtrKey, T: Drop, S: SlotStack<Item = ArenaSlot<P, T>>> Arena<P, T, S> {
         }
     }
 
-    /// Grows a full arena to a capacity for one more entry.
+    /// Grows a full arena for one more entry.
     ///
     /// # Errors
     ///
-    /// - `BeyondMaxCapacity`: the growth needed is beyond the maximum.
-    /// - `AllocError`: the growth needed is beyond the greatest index, or an allocation failed.
-    ///
-    /// Nothing changes on error. Not in `triple_arena`.
+    /// - `BeyondMaxCapacity`: the maximum is reached.
+    /// - `AllocError`: an allocation failed, or the greatest index is reached.
     pub fn grow_if_full(&mut self) -> Result<(), ReallocationError>
         ensures outcome { GrowsArenaForOneMore S.may_reach P.Inx.greatest self.old result
             self.new }
@@ -198,17 +178,13 @@ impl<P: PtrKey, T: Drop, S: SlotStack<Item = ArenaSlot<P, T>>> Arena<P, T, S> {
         }
     }
 
-    /// Returns whether there are as many entries as the capacity.
-    ///
-    /// Not in `triple_arena`.
+    /// Returns whether the entries use up the capacity.
     pub fn is_full(&self) -> bool
         ensures { ReportsFull P.Inx.greatest self.now result }
     {
         self.len == self.slots.capacity().min(P::Inx::greatest())
     }
 
-    // Grows to a capacity of at least `n`, which is above the capacity. This is the unlikely path,
-    // so it is not inlined.
     #[cold]
     #[inline(never)]
     pub(crate) fn grow_to(&mut self, n: usize) -> Result<(), ReallocationError>
@@ -221,7 +197,6 @@ impl<P: PtrKey, T: Drop, S: SlotStack<Item = ArenaSlot<P, T>>> Arena<P, T, S> {
         self.slots.reserve_to(n)
     }
 
-    // Returns the pointer and the value of the entry at position `k`, from 0, if there is one.
     pub(crate) fn pair_at(&self, k: usize) -> Option<(P, &T)>
         requires { k < P.Inx.greatest }
         ensures { ReturnsPairAt P.key self.now.slots k result }
@@ -235,10 +210,7 @@ impl<P: PtrKey, T: Drop, S: SlotStack<Item = ArenaSlot<P, T>>> Arena<P, T, S> {
         }
     }
 
-    // Returns the first entry at position `from` or later: the position after it, its pointer and
-    // its value. The first slot is tested separately, since the search mostly ends there.
-    // Continuing from a position does not wait for a generation to load, as an index out of a
-    // pointer would.
+    // Most searches end at the first slot, and a position needs no load.
     pub(crate) fn next_from(&self, from: usize) -> Option<(usize, P, &T)>
         ensures { ReturnsNext P.key self.now.slots from result }
     {
@@ -251,7 +223,6 @@ impl<P: PtrKey, T: Drop, S: SlotStack<Item = ArenaSlot<P, T>>> Arena<P, T, S> {
         }
     }
 
-    // Searches slot by slot for the first entry at position `from` or later.
     fn search_from(&self, from: usize) -> Option<(usize, P, &T)>
         ensures { ReturnsNext P.key self.now.slots from result }
     {
@@ -263,7 +234,6 @@ impl<P: PtrKey, T: Drop, S: SlotStack<Item = ArenaSlot<P, T>>> Arena<P, T, S> {
         None
     }
 
-    // Returns the valid pointer of least index at position `from` or later.
     pub(crate) fn first_from(&self, from: usize) -> Option<P>
         ensures { ReturnsPointer P.key
             (first_key (entries_from (from + 1) (drop from self.now.slots))) result }
@@ -271,7 +241,6 @@ impl<P: PtrKey, T: Drop, S: SlotStack<Item = ArenaSlot<P, T>>> Arena<P, T, S> {
         Some(self.next_from(from)?.1)
     }
 
-    // Returns the valid pointer of greatest index up to index `to`.
     pub(crate) fn last_to(&self, to: usize) -> Option<P>
         ensures { ReturnsPointer P.key (last_key (entries_from 1 (take to self.now.slots))) result }
     {
@@ -283,7 +252,6 @@ impl<P: PtrKey, T: Drop, S: SlotStack<Item = ArenaSlot<P, T>>> Arena<P, T, S> {
         None
     }
 
-    // Returns the pointer of the first entry ahead of a cursor.
     pub(crate) fn find(&self, cursor: Cursor) -> Option<P>
         ensures { ReturnsPointer P.key (first_key (ahead cursor (entries self.now))) result }
     {
@@ -294,36 +262,29 @@ impl<P: PtrKey, T: Drop, S: SlotStack<Item = ArenaSlot<P, T>>> Arena<P, T, S> {
         }
     }
 
-    /// Returns the index of the next insertion, or `None` if it is above the greatest.
-    ///
-    /// Not in `triple_arena`.
+    /// Returns the next insertion's index, or `None` above the greatest.
     pub fn next_inx(&self) -> Option<P::Inx>
         ensures { entry_count self.now < P.Inx.greatest
             → option_map P.Inx.number result ≡ Some (next_index self.now) }
     {
         match P::Inx::unpack(self.first_free) {
             Some(i) => Some(i),
-            // There are as many slots as entries.
             None => P::Inx::try_from_usize(self.len + 1),
         }
     }
 
-    /// Returns the pointer that the next insertion returns; there must be capacity for it.
-    ///
-    /// Not in `triple_arena`.
+    /// Returns the next insertion's pointer.
     pub fn next_ptr(&self) -> P
         requires { entry_count self.now < self.now.capacity }
         ensures { P.key result ≡ (next_index self.now, self.now.counter) }
     {
         let i = match P::Inx::unpack(self.first_free) {
             Some(i) => i,
-            // There are as many slots as entries.
             None => inx_at::<P>(self.len),
         };
         P::_from_raw(i, self.counter)
     }
 
-    // Removes the entry at an index, if there is one, and increments the counter.
     pub(crate) fn take_at(&mut self, i: P::Inx) -> InvalidationResult<(P::Gen, T)>
         ensures { TakesEntryAt P.Gen.following P.Gen.wraps self.old (P.Inx.number i) result
             self.new }
@@ -341,7 +302,6 @@ impl<P: PtrKey, T: Drop, S: SlotStack<Item = ArenaSlot<P, T>>> Arena<P, T, S> {
         }
     }
 
-    // Increments the counter and makes it the generation of the entry at an index.
     pub(crate) fn renew_at(&mut self, i: P::Inx) -> (P::Gen, bool)
         requires { IsSome (entry_at self.old (P.Inx.number i)) }
         ensures { RenewsEntry P.Gen.following P.Gen.wraps (P.Inx.number i) self.old result
@@ -353,7 +313,6 @@ impl<P: PtrKey, T: Drop, S: SlotStack<Item = ArenaSlot<P, T>>> Arena<P, T, S> {
         (generation, overflow)
     }
 
-    // Takes the slots, and leaves the arena empty over a new stack.
     pub(crate) fn take_slots(&mut self) -> DetachedSlots<P, T, S>
         ensures { DetachesSlots S.initial_maximum P.Inx.greatest self.old result self.new }
     {
@@ -364,8 +323,6 @@ impl<P: PtrKey, T: Drop, S: SlotStack<Item = ArenaSlot<P, T>>> Arena<P, T, S> {
         DetachedSlots { slots }
     }
 
-    // Returns slots to the arena: free slots at the end are removed, and the other free slots are
-    // listed.
     pub(crate) fn return_slots(&mut self, detached: DetachedSlots<P, T, S>)
         ensures { self.new ≡ arena_after_return P.Inx.greatest self.old detached }
     {
@@ -377,8 +334,7 @@ impl<P: PtrKey, T: Drop, S: SlotStack<Item = ArenaSlot<P, T>>> Arena<P, T, S> {
         self.first_free = first_free;
     }
 
-    // Returns slots to the arena, of which exactly the first `count` are entries. The others are
-    // removed, without reading any.
+    // Reads no slot; the first `count` are the entries.
     pub(crate) fn return_packed(&mut self, detached: DetachedSlots<P, T, S>, count: usize)
         requires { IsPacked detached.slots count }
         ensures { self.new ≡ arena_after_return P.Inx.greatest self.old detached }
@@ -390,14 +346,12 @@ impl<P: PtrKey, T: Drop, S: SlotStack<Item = ArenaSlot<P, T>>> Arena<P, T, S> {
         self.first_free = P::Inx::pack(None);
     }
 
-    // Counts one placement.
     pub(crate) fn count_placement(&mut self)
         ensures { self.new ≡ with_placement self.old }
     {
         self.placed = self.placed.one_more();
     }
 
-    // Counts one touch.
     pub(crate) fn count_touch(&mut self)
         ensures { self.new ≡ with_touch self.old }
     {
@@ -405,7 +359,6 @@ impl<P: PtrKey, T: Drop, S: SlotStack<Item = ArenaSlot<P, T>>> Arena<P, T, S> {
     }
 }
 
-// Returns why growth to `n` entries is refused, more than there are indexes.
 fn refusal(maximum: Option<usize>, n: usize) -> ReallocationError
     ensures { (result ≡ ReallocationError.BeyondMaxCapacity) ↔ IsBeyond maximum n }
 {
@@ -420,12 +373,11 @@ impl<P: PtrKey, T: Drop, S: LimitStack<Item = ArenaSlot<P, T>>> SetMaxCapacity f
 
     ghost limits = { λ a n b. b ≡ with_maximum a n };
 
-    /// Sets the maximum to `n`.
+    /// Sets the maximum.
     ///
     /// # Errors
     ///
-    /// `MaxCapacityReductionError` exactly if `n` is below the capacity of the stack; nothing
-    /// changes then.
+    /// - `MaxCapacityReductionError`: `n` is below the stack's capacity.
     fn set_max_capacity(&mut self, n: usize) -> Result<(), MaxCapacityReductionError> {
         self.slots.set_max_capacity(n)
     }

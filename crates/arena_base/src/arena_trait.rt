@@ -1,4 +1,3 @@
-// The implementation of the arena traits for `Arena`.
 ghost use Rattle.std.specs.Prelude.{◌≡◌, length};
 ghost use Rattle.arena_traits.specs.Arena.{counter_after_clear, overflows_after_clear, entry_count, HasCapacityFor, IsListed};
 ghost use Rattle.arena_traits.specs.Compressions.{counter_after_compression, overflows_after_compression};
@@ -75,7 +74,6 @@ impl<P: PtrKey, T: Drop, S: SlotStack<Item = ArenaSlot<P, T>>> ArenaTrait<P, T> 
         ensures sound { IsSoundView P.Inx.greatest (view_of self.now) }
         ensures entries { result ≡ entry_count self.now }
 
-        // The slots, the freed list and the capacity of every arena.
         ensures listed { IsListed self.now }
         ensures capacity { HasCapacityFor P.Inx.greatest (length self.now.slots) self.now }
     {
@@ -103,7 +101,7 @@ impl<P: PtrKey, T: Drop, S: SlotStack<Item = ArenaSlot<P, T>>> ArenaTrait<P, T> 
 
     fn get(&self, p: P) -> Option<&T> {
         let i = p.inx();
-        // The number, not the position, is compared with the length: two instructions fewer.
+        // Comparing the number takes two instructions fewer.
         if number_of::<P>(i) > self.slots.len() {
             return None;
         }
@@ -240,7 +238,6 @@ impl<P: PtrKey, T: Drop, S: SlotStack<Item = ArenaSlot<P, T>>> PlainArenaTrait<P
     }
 }
 
-// Returns the counter after `count` entries were cleared, and whether it overflowed.
 fn after_clear<G: GenKey>(counter: G, count: usize) -> (G, bool)
     ensures { ReturnsCounter (counter_after_clear G.following count counter)
         (overflows_after_clear G.wraps count counter) result }
@@ -252,7 +249,6 @@ fn after_clear<G: GenKey>(counter: G, count: usize) -> (G, bool)
     }
 }
 
-// Returns the counter after a compression of `count` entries, and whether it overflowed.
 fn after_compression<G: GenKey>(counter: G, count: usize, reset: bool) -> (G, bool)
     ensures { ReturnsCounter (counter_after_compression G.first G.following reset count counter)
         (overflows_after_compression G.wraps reset count counter) result }
@@ -265,24 +261,18 @@ fn after_compression<G: GenKey>(counter: G, count: usize, reset: bool) -> (G, bo
 }
 
 impl<P: PtrKey, T: Drop, S: SlotStack<Item = ArenaSlot<P, T>>> Arena<P, T, S> {
-    /// Establishes facts that hold for every arena.
-    ///
-    /// It has no effect: a function calls it where its proof needs one of these facts.
+    /// Establishes facts of every arena, and has no effect.
     pub fn invariants(&self)
         ensures sound { IsSoundView P.Inx.greatest (view_of self.now) }
 
-        // The freed list has each free slot once, so an insertion overwrites no entry.
         ensures listed { IsListed self.now }
 
-        // The capacity is the lesser of the stack's capacity and the greatest index.
         ensures capacity { HasCapacityFor P.Inx.greatest (length self.now.slots) self.now }
     {
         self.len();
     }
 
-    /// Sets the counter for a compression, and reports whether it overflowed.
-    ///
-    /// With `reset` the counter restarts; otherwise it is incremented if there are entries.
+    /// Increments the counter if there are entries, or restarts it with `reset`.
     pub fn begin_generation(&mut self, reset: bool) -> InvalidationOption<()>
         ensures { BeginsGeneration P.Gen.first P.Gen.following P.Gen.wraps reset self.old result
             self.new }

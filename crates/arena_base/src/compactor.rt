@@ -1,4 +1,3 @@
-// The compactor, which holds the slots of an arena while entries are moved.
 ghost use Rattle.std.specs.Prelude.{◌≡◌, ◌≢◌, ◌≤◌, ⊤, None, OnSome, IsSome, length};
 ghost use Rattle.std.specs.Option.{option_map, option_copied_mut};
 ghost use Rattle.std.specs.Borrow.{LendsSo, follows_so, sem};
@@ -12,19 +11,17 @@ use crate::detached_slots::{DetachedSlots, LendsValue};
 use crate::slot::ArenaSlot;
 use arena_core::{HeapStack, PtrKey, SlotStack};
 
-/// The work of a compactor: the number of placements, and of other accesses to slots.
-///
-/// Each count saturates at 2^128 - 1.
+/// The numbers of placements and of other slot accesses, saturating at 2^128 - 1.
 #[derive(Debug, Clone, Copy, PartialEq, Eq)]
 pub struct Work {
     pub placed: u128,
     pub touched: u128,
 }
 
-/// The slots of an arena, taken out of it while entries are moved.
+/// The slots of an arena, taken out of it to move entries.
 ///
-/// `finish`, `finish_packed` and dropping return the slots. Until then the arena is empty, over a
-/// new stack. None of the calls allocates or changes the counter.
+/// `finish`, `finish_packed` and dropping return them; until then the arena is empty. No call
+/// allocates.
 pub struct Compactor<
     'a,
     P: PtrKey,
@@ -38,7 +35,7 @@ pub struct Compactor<
 }
 
 impl<P: PtrKey, T: Drop, S: SlotStack<Item = ArenaSlot<P, T>>> Arena<P, T, S> {
-    /// Takes the slots out of the arena into a compactor, to move entries.
+    /// Takes the slots out of the arena.
     pub fn compactor(&mut self) -> Compactor<'_, P, T, S>
         ensures { TakesSlots S.initial_maximum P.Inx.greatest self.entry result }
     {
@@ -53,14 +50,13 @@ impl<P: PtrKey, T: Drop, S: SlotStack<Item = ArenaSlot<P, T>>> Arena<P, T, S> {
 }
 
 impl<'a, P: PtrKey, T: Drop, S: SlotStack<Item = ArenaSlot<P, T>>> Compactor<'a, P, T, S> {
-    /// Returns the number of slots, which only the calls that return the slots change.
     pub fn slots(&self) -> usize
         ensures { result ≡ length self.now.detached.slots }
     {
         self.detached.len()
     }
 
-    /// Swaps two slots, sets the generation of the entry now at `to`, and counts one placement.
+    /// Swaps two slots, and sets the generation of the entry now at `to`.
     pub fn place(&mut self, from: P::Inx, to: P::Inx, generation: P::Gen)
         requires from { P.Inx.number from ≤ length self.old.detached.slots }
         requires to { P.Inx.number to ≤ length self.old.detached.slots }
@@ -72,10 +68,7 @@ impl<'a, P: PtrKey, T: Drop, S: SlotStack<Item = ArenaSlot<P, T>>> Compactor<'a,
         self.detached.place(from, to, generation);
     }
 
-    /// Moves an entry to a free slot, or keeps it in its own, sets its generation, and counts one
-    /// placement.
-    ///
-    /// `place` has the same effect there.
+    /// Places an entry, as `place` does, in a free slot or its own.
     pub fn move_to_free_slot(&mut self, from: P::Inx, to: P::Inx, generation: P::Gen)
         requires to { P.Inx.number to ≤ length self.old.detached.slots }
         requires entry { IsSome (slot_at self.old.detached.slots (P.Inx.number from)) }
@@ -88,10 +81,8 @@ impl<'a, P: PtrKey, T: Drop, S: SlotStack<Item = ArenaSlot<P, T>>> Compactor<'a,
         self.detached.move_to_free_slot(from, to, generation);
     }
 
-    /// Returns the slots to the arena, and what was counted.
-    ///
-    /// Free slots at the end are removed. The other free slots are listed, with the least index to
-    /// be used first.
+    /// Returns the slots without free ones at the end, lists the others by ascending index, and
+    /// reports the counts.
     pub fn finish(self) -> Work
         ensures { ReturnsSlots P.Inx.greatest self.entry result self.exit.0.now }
     {
@@ -105,9 +96,7 @@ impl<'a, P: PtrKey, T: Drop, S: SlotStack<Item = ArenaSlot<P, T>>> Compactor<'a,
         Work { placed, touched }
     }
 
-    /// Returns the slots to the arena as `finish` does, and what was counted, but reads no slot.
-    ///
-    /// Exactly the first `count` slots must be entries.
+    /// Finishes without reading slots, of which exactly the first `count` are entries.
     pub fn finish_packed(self, count: usize) -> Work
         requires { IsPacked self.detached.slots count }
         ensures { ReturnsSlots P.Inx.greatest self.entry result self.exit.0.now }
@@ -136,17 +125,16 @@ impl<'a, P: PtrKey, T: Drop, S: SlotStack<Item = ArenaSlot<P, T>>> Drop for Comp
 pub trait SlotAccess<P: PtrKey, T: Drop> {
     ghost detached: { Self → DetachedView P.Gen T };
 
-    // The second is the first after one touch, apart from what it holds.
     ghost touches: { Self → Self → Type 0 };
 
-    /// Returns the generation and the value at an index. Counts one touch.
+    /// Returns the generation and the value at an index.
     fn peek(&mut self, i: P::Inx) -> Option<(&P::Gen, &T)>
         ensures* after { sem 𝓛 (follows_so Self.row Self.row self.entry.ghost_name none
             (λ _ _. ⊤) (IsTouched detached touches self.old)) }
         ensures value { option_map borrowed_parts result ≡ slot_at (detached self.old).slots
             (P.Inx.number i) };
 
-    /// Returns the value at an index, for writing. Counts one touch.
+    /// Returns the value at an index for writing.
     fn value_mut(&mut self, i: P::Inx) -> Option<&mut T>
         ensures* writes_back { sem 𝓛 (LendsSo Self.row T.row self.entry result
             (λ new t. OnSome result (IsWrittenAt detached touches self.old (P.Inx.number i) new t))

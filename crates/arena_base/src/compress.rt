@@ -1,4 +1,3 @@
-// Compaction of the entries to the indexes from 1, in the order of their indexes.
 ghost use Rattle.std.specs.Prelude.{◌≡◌, ◌≢◌, ◌≤◌, length, None};
 ghost use Rattle.arena_traits.specs.Arena.{slot_at};
 ghost use Rattle.arena_base.specs.CompactorCalls.{MovesEntry, CompactsEntries};
@@ -9,8 +8,6 @@ use crate::compactor::{Compactor, SlotAccess};
 use crate::slot::{ArenaSlot, inx_at};
 use arena_core::{PtrKey, SlotStack, proved_unreachable};
 
-// Moves the entry at index `from`, if there is one, to index `to`, free or its own. Sets its
-// generation and returns the old one.
 fn move_entry<P: PtrKey, T: Drop, S: SlotStack<Item = ArenaSlot<P, T>>>(
     compactor: &mut Compactor<'_, P, T, S>,
     from: P::Inx,
@@ -28,10 +25,6 @@ fn move_entry<P: PtrKey, T: Drop, S: SlotStack<Item = ArenaSlot<P, T>>>(
     Some(was)
 }
 
-// Moves each entry, by ascending index, to the first free index, and sets its generation. Calls
-// `map` with the entry's old pointer, its value, for writing, and its new pointer. Each slot is
-// read once, and each value lent once. Returns the number of entries, which then are in the first
-// slots.
 fn compact_entries<
     P: PtrKey,
     T: Drop,
@@ -58,8 +51,6 @@ fn compact_entries<
 }
 
 impl<P: PtrKey, T: Drop, S: SlotStack<Item = ArenaSlot<P, T>>> Arena<P, T, S> {
-    // Compacts the entries, makes the counter the generation of each, and calls `map` for each. The
-    // slots are exactly the entries then.
     pub(crate) fn gather<F: FnMut(P, &mut T, P) + Drop>(&mut self, map: F)
         requires { F.IsAlwaysCallable map }
         ensures { IsGathered F.FnMut P.key map self.old self.new }

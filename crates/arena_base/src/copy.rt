@@ -1,4 +1,3 @@
-// Copying of an arena into another, with other values.
 ghost use Rattle.std.specs.Prelude.{◌≡◌, ◌≤◌, [], length};
 ghost use Rattle.arena_base.specs.CopyOutcomes.{CopiesSlots, CopiesArena};
 
@@ -9,10 +8,9 @@ use arena_core::{AllocError, InxKey, PtrKey, ReallocationError, SlotStack, prove
 use arena_traits::{ArenaTrait, CloneArenaTrait};
 use std::alloc::Global;
 
-/// A `ValueMap` by a closure, which is called with the pointer and the value of each entry.
+/// A `ValueMap` by a closure.
 #[derive(Drop)]
 pub struct ClosureMap<F> {
-    /// The closure.
     pub map: F,
 }
 
@@ -30,9 +28,6 @@ impl<P, U, T, F: FnMut(P, &U) -> T + Drop> ValueMap<P, U, T> for ClosureMap<F> {
     }
 }
 
-// Appends a copy of each slot to an empty stack. A free slot names the same next one; an entry
-// keeps its generation and has a value made by `values`. `values` is called once for each entry, by
-// ascending index, up to the first value that is refused, and is returned.
 fn copy_slots<
     P: PtrKey,
     T: Drop,
@@ -67,9 +62,7 @@ fn copy_slots<
 }
 
 impl<P: PtrKey, T: Drop, S: SlotStack<Item = ArenaSlot<P, T>>> Arena<P, T, S> {
-    /// Becomes a copy of `source`, with values made by `values`, which is returned.
-    ///
-    /// Changes and errors are those of `ArenaCloneFromWith::clone_from_by`.
+    /// Becomes a copy of `source`, as by `ArenaCloneFromWith`.
     pub fn clone_from_by<U: Drop, S1: SlotStack<Item = ArenaSlot<P, U>>, M: ValueMap<P, U, T>>(
         &mut self,
         source: &Arena<P, U, S1>,
@@ -120,7 +113,6 @@ impl<P: PtrKey, T: Drop, S: SlotStack<Item = ArenaSlot<P, T>>> ArenaCloneFromWit
     }
 }
 
-// Clones each value for a copy.
 #[derive(Drop)]
 struct ValueClones;
 

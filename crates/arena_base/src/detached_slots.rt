@@ -1,4 +1,3 @@
-// The slots of an arena while entries are moved, without a freed list.
 ghost use Rattle.std.specs.Prelude.{◌≡◌, ◌≢◌, ◌≤◌, ◌<◌, None, OnSome, IsSome, length};
 ghost use Rattle.std.specs.Option.{option_map, option_copied_mut};
 ghost use Rattle.std.specs.Borrow.{LendsSo, sem};
@@ -28,14 +27,12 @@ impl<P: PtrKey, T: Drop, S: SlotStack<Item = ArenaSlot<P, T>>> Model for Detache
 }
 
 impl<P: PtrKey, T: Drop, S: SlotStack<Item = ArenaSlot<P, T>>> DetachedSlots<P, T, S> {
-    // Returns the number of slots.
     pub(crate) fn len(&self) -> usize
         ensures { result ≡ length self.now.slots }
     {
         self.slots.len()
     }
 
-    // Returns the entry at an index.
     pub(crate) fn lookup(&self, i: P::Inx) -> Option<(&P::Gen, &T)>
         ensures { option_map borrowed_parts result ≡ slot_at self.now.slots (P.Inx.number i) }
     {
@@ -46,7 +43,6 @@ impl<P: PtrKey, T: Drop, S: SlotStack<Item = ArenaSlot<P, T>>> DetachedSlots<P, 
         }
     }
 
-    // Swaps two slots and sets the generation of the entry that is moved to the second.
     pub(crate) fn place(&mut self, from: P::Inx, to: P::Inx, generation: P::Gen)
         requires from { P.Inx.number from ≤ length self.old.slots }
         requires to { P.Inx.number to ≤ length self.old.slots }
@@ -59,7 +55,6 @@ impl<P: PtrKey, T: Drop, S: SlotStack<Item = ArenaSlot<P, T>>> DetachedSlots<P, 
         self.slots.swap(from, position_of::<P>(to));
     }
 
-    // Moves an entry to a free slot, or keeps it in its own, and sets its generation.
     pub(crate) fn move_to_free_slot(&mut self, from: P::Inx, to: P::Inx, generation: P::Gen)
         requires to { P.Inx.number to ≤ length self.old.slots }
         requires entry { IsSome (slot_at self.old.slots (P.Inx.number from)) }
@@ -79,11 +74,9 @@ impl<P: PtrKey, T: Drop, S: SlotStack<Item = ArenaSlot<P, T>>> DetachedSlots<P, 
     }
 }
 
-// A holder of slots that lends the values in them.
 pub(crate) trait LendsValue<P: PtrKey, T: Drop> {
     ghost lent: { Self → DetachedView P.Gen T };
 
-    // Returns the value at an index, for writing.
     fn value_mut(&mut self, i: P::Inx) -> Option<&mut T>
         ensures* writes_back { sem 𝓛 (LendsSo Self.row T.row self.entry result
             (λ new t. OnSome result

@@ -1,4 +1,3 @@
-// An insertion whose pointer is known before its value.
 ghost use Rattle.std.specs.Prelude.{◌≡◌, ◌↔◌, ◌<◌, IsErr, IfOk};
 ghost use Rattle.std.specs.Borrow.{RestsIfErr, sem};
 ghost use Rattle.arena_traits.specs.Arena.{entry_count, next_index, insert_next};
@@ -7,7 +6,7 @@ use crate::arena::Arena;
 use crate::slot::ArenaSlot;
 use arena_core::{HeapStack, NotWithinCapacityError, PtrKey, SlotStack};
 
-/// A vacant entry, whose pointer is known before its value. Dropping it changes nothing.
+/// A vacant entry, whose pointer is known before its value.
 ///
 /// Port of `ArenaInsertEntry`.
 pub struct ArenaInsertEntry<
@@ -23,11 +22,11 @@ pub struct ArenaInsertEntry<
 impl<P: PtrKey, T: Drop, S: SlotStack<Item = ArenaSlot<P, T>>> Arena<P, T, S> {
     ghost use Rattle.arena_base.specs.contracts.arena.Arena.{the_row as arena_row};
 
-    /// Returns a vacant entry within the capacity.
+    /// Returns a vacant entry.
     ///
     /// # Errors
     ///
-    /// `NotWithinCapacityError`: there are as many entries as the capacity. Nothing changes then.
+    /// - `NotWithinCapacityError`: the arena is full.
     pub fn entry_insert_within_capacity(
         &mut self,
     ) -> Result<ArenaInsertEntry<'_, P, T, S>, NotWithinCapacityError>
@@ -47,7 +46,7 @@ impl<P: PtrKey, T: Drop, S: SlotStack<Item = ArenaSlot<P, T>>> Arena<P, T, S> {
 }
 
 impl<'a, P: PtrKey, T: Drop, S: SlotStack<Item = ArenaSlot<P, T>>> ArenaInsertEntry<'a, P, T, S> {
-    /// Returns the pointer that the entry will have.
+    /// Returns the entry's pointer.
     pub fn ptr(&self) -> P
         ensures { P.key result ≡ (next_index self.now.arena.now, self.now.arena.now.counter) }
     {

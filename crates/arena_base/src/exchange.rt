@@ -1,4 +1,3 @@
-// The exchange of the values of two entries.
 ghost use Rattle.std.specs.Prelude.{◌≢◌, slice_get, IsSome};
 ghost use Rattle.arena_traits.specs.Arena.{entry_at};
 ghost use Rattle.arena_base.specs.ArenaCalls.{IsExchanged};
@@ -10,7 +9,6 @@ use crate::slot::{ArenaSlot, position_of, vacate_at, write_at};
 use arena_core::{InxKey, PtrKey, SlotStack, proved_unreachable};
 use std::mem;
 
-// Replaces the value of the entry at position `k`, and returns the former one.
 fn replace_value_at<P: PtrKey, T: Drop, S: SlotStack<Item = ArenaSlot<P, T>>>(
     slots: &mut S,
     k: usize,
@@ -28,7 +26,6 @@ fn replace_value_at<P: PtrKey, T: Drop, S: SlotStack<Item = ArenaSlot<P, T>>>(
     }
 }
 
-// Exchanges the values of the entries at two positions.
 fn exchange_values_at<P: PtrKey, T: Drop, S: SlotStack<Item = ArenaSlot<P, T>>>(
     slots: &mut S,
     k: usize,
@@ -49,7 +46,6 @@ fn exchange_values_at<P: PtrKey, T: Drop, S: SlotStack<Item = ArenaSlot<P, T>>>(
 }
 
 impl<P: PtrKey, T: Drop, S: SlotStack<Item = ArenaSlot<P, T>>> Arena<P, T, S> {
-    // Exchanges the values of the entries at two indexes.
     pub(crate) fn exchange_at(&mut self, i: P::Inx, j: P::Inx)
         requires first { IsSome (entry_at self.old (P.Inx.number i)) }
         requires second { IsSome (entry_at self.old (P.Inx.number j)) }

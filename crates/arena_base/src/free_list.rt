@@ -1,4 +1,3 @@
-// Rebuilding of the freed list after entries were moved.
 ghost use Rattle.std.specs.Prelude.{◌≡◌, ◌≤◌, map, length};
 ghost use Rattle.arena_base.specs.Slots.{entry_of, KeepsBounds};
 ghost use Rattle.arena_base.specs.DetachedSlots.{without_free_end};
@@ -7,7 +6,6 @@ ghost use Rattle.arena_base.specs.SlotCalls.{ListsFreeSlots};
 use crate::slot::{ArenaSlot, PackedInx, is_free_at, list_at};
 use arena_core::{InxKey, PtrKey, SlotStack};
 
-// Removes the free slots at the end.
 pub(crate) fn trim<P: PtrKey, T: Drop, S: SlotStack<Item = ArenaSlot<P, T>>>(slots: &mut S)
     ensures items { map entry_of (S.items slots.new)
         ≡ without_free_end (map entry_of (S.items slots.old)) }
@@ -21,7 +19,6 @@ pub(crate) fn trim<P: PtrKey, T: Drop, S: SlotStack<Item = ArenaSlot<P, T>>>(slo
     slots.truncate(count);
 }
 
-// Lists the free slots by ascending index. Returns the number of entries and the first free index.
 pub(crate) fn relist<P: PtrKey, T: Drop, S: SlotStack<Item = ArenaSlot<P, T>>>(
     slots: &mut S,
 ) -> (usize, PackedInx<P::Inx>)

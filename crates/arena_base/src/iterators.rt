@@ -1,4 +1,3 @@
-// Iterators over the entries of an arena, by ascending index. Each passes every slot once.
 ghost use Rattle.std.specs.Prelude.{◌≡◌, ◌+◌, drop};
 ghost use Rattle.arena_base.specs.ArenaCalls.{TakesNext};
 ghost use Rattle.arena_traits.specs.Entries.{entries_from};
@@ -10,8 +9,6 @@ use arena_core::{HeapStack, PtrKey, SlotStack, proved_unreachable};
 use std::marker::Model;
 
 impl<P: PtrKey, T: Drop, S: SlotStack<Item = ArenaSlot<P, T>>> Arena<P, T, S> {
-    // Removes the first entry at position `from` or later, and returns it with the position after
-    // it.
     fn take_from(&mut self, from: usize) -> Option<(usize, P, T)>
         ensures { TakesNext P.key from self.old result self.new }
     {
@@ -27,8 +24,7 @@ impl<P: PtrKey, T: Drop, S: SlotStack<Item = ArenaSlot<P, T>>> Arena<P, T, S> {
     }
 }
 
-/// An iterator over the pointers and values of an arena, whose model is the list of remaining
-/// entries.
+/// An iterator by ascending index.
 ///
 /// Port of `Iter`.
 #[derive(Drop)]
@@ -39,7 +35,6 @@ pub struct Iter<
     S: SlotStack<Item = ArenaSlot<P, T>> = HeapStack<ArenaSlot<P, T>>,
 > {
     arena: &'a Arena<P, T, S>,
-    // The position of the next slot to read.
     next: usize,
 }
 
@@ -71,8 +66,7 @@ impl<'a, P: PtrKey, T: Drop, S: SlotStack<Item = ArenaSlot<P, T>>> Iterator for 
     }
 }
 
-/// A consuming iterator over the pointers and values of an arena, whose model is the list of
-/// remaining entries.
+/// A consuming iterator by ascending index.
 ///
 /// Port of `CapacityDrain`.
 #[derive(Drop)]
@@ -82,7 +76,6 @@ pub struct CapacityDrain<
     S: SlotStack<Item = ArenaSlot<P, T>> = HeapStack<ArenaSlot<P, T>>,
 > {
     arena: Arena<P, T, S>,
-    // The position of the next slot to read.
     next: usize,
 }
 

@@ -1,5 +1,4 @@
-//! A generational arena: entries at indexes from 1, each with a generation, in slots that are
-//! reused.
+//! A generational arena, whose slots are reused.
 #![tactic(auto)]
 
 mod advancer;

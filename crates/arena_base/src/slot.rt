@@ -1,4 +1,3 @@
-// A slot of an arena, and the operations on a stack of slots.
 ghost use Rattle.std.specs.Prelude.{◌≡◌, ◌+◌, ◌<◌, length, slice_get, is_none, IsSome};
 ghost use Rattle.std.specs.Option.{option_map, option_copied_mut};
 ghost use Rattle.std.specs.Borrow.{LendsIf, sem};
@@ -8,25 +7,19 @@ ghost use Rattle.arena_base.specs.SlotCalls.{VacatesSlot, WritesSlot, Regenerate
 use arena_core::{InxKey, PackedOption, PtrKey, SlotStack, proved_unreachable};
 use std::mem;
 
-// An optional index, packed.
 pub(crate) type PackedInx<I> = PackedOption<I, <I as InxKey>::Word>;
 
-/// A slot of an arena: an entry with its generation, or a free slot that names the slot freed
-/// before it.
-///
-/// Port of the slots of the backings of `triple_arena`.
+/// An entry with its generation, or a free slot that names the one freed before.
 #[derive(Drop)]
 pub enum ArenaSlot<P: PtrKey, T> {
-    /// The generation and the value of an entry.
     Allocated(P::Gen, T),
-    /// The next freed index, if there is one. `P::Inx::unpack` returns it.
+    /// The next freed index.
     Free(PackedOption<P::Inx, <P::Inx as InxKey>::Word>),
 }
 
 impl<P: PtrKey, T> ArenaSlot<P, T> {
     ghost use Rattle.arena_base.specs.contracts.slot.ArenaSlot.{the_row};
 
-    // Returns the value of an entry, for writing.
     pub(crate) fn value_mut(&mut self) -> Option<&mut T>
         ensures* lends { sem 𝓛 (LendsIf (the_row P.row T.row P.Inx.row P.Gen.row P.Inx.Word.row)
             T.row self.entry result (with_value_in self.old) self.old) }
@@ -38,7 +31,6 @@ impl<P: PtrKey, T> ArenaSlot<P, T> {
         }
     }
 
-    // Removes an entry, and makes the slot free, before the freed slot `next`.
     fn vacate(&mut self, next: PackedInx<P::Inx>) -> Option<(P::Gen, T)>
         ensures { VacatesSlot next self.old result self.new }
     {
@@ -52,7 +44,7 @@ impl<P: PtrKey, T> ArenaSlot<P, T> {
     }
 }
 
-/// Returns the position of an index in the list of slots, from 0.
+/// Returns the position of an index, from 0.
 pub fn position_of<P: PtrKey>(i: P::Inx) -> usize
     ensures { result + 1 ≡ P.Inx.number i }
 {
@@ -69,7 +61,7 @@ pub fn number_of<P: PtrKey>(i: P::Inx) -> usize
     }
 }
 
-/// Returns the index at position `k`, from 0, which is index `k + 1`.
+/// Returns the index at position `k`, from 0.
 pub fn inx_at<P: PtrKey>(k: usize) -> P::Inx
     requires { k < P.Inx.greatest }
     ensures { P.Inx.number result ≡ k + 1 }
@@ -80,7 +72,6 @@ pub fn inx_at<P: PtrKey>(k: usize) -> P::Inx
     }
 }
 
-// Writes an entry into a free slot, and returns the next freed index that the slot named.
 pub(crate) fn fill<P: PtrKey, T: Drop, S: SlotStack<Item = ArenaSlot<P, T>>>(
     slots: &mut S,
     k: usize,
@@ -103,8 +94,6 @@ pub(crate) fn fill<P: PtrKey, T: Drop, S: SlotStack<Item = ArenaSlot<P, T>>>(
     }
 }
 
-// Removes the entry at position `k`, if there is one, and makes its slot free, before the freed
-// slot `next`.
 pub(crate) fn vacate_at<P: PtrKey, T: Drop, S: SlotStack<Item = ArenaSlot<P, T>>>(
     slots: &mut S,
     k: usize,
@@ -118,7 +107,6 @@ pub(crate) fn vacate_at<P: PtrKey, T: Drop, S: SlotStack<Item = ArenaSlot<P, T>>
     }
 }
 
-// Writes the slot at position `k`.
 pub(crate) fn write_at<P: PtrKey, T: Drop, S: SlotStack<Item = ArenaSlot<P, T>>>(
     slots: &mut S,
     k: usize,
@@ -133,7 +121,7 @@ pub(crate) fn write_at<P: PtrKey, T: Drop, S: SlotStack<Item = ArenaSlot<P, T>>>
     }
 }
 
-// Sets the generation of the entry at position `k`. It does not test whether there is one.
+// Does not test for an entry.
 pub(crate) fn regenerate_at<P: PtrKey, T: Drop, S: SlotStack<Item = ArenaSlot<P, T>>>(
     slots: &mut S,
     k: usize,
@@ -151,7 +139,6 @@ pub(crate) fn regenerate_at<P: PtrKey, T: Drop, S: SlotStack<Item = ArenaSlot<P,
     }
 }
 
-// Returns whether no entry is at position `k`.
 pub(crate) fn is_free_at<P: PtrKey, T: Drop, S: SlotStack<Item = ArenaSlot<P, T>>>(
     slots: &S,
     k: usize,
@@ -165,7 +152,6 @@ pub(crate) fn is_free_at<P: PtrKey, T: Drop, S: SlotStack<Item = ArenaSlot<P, T>
     }
 }
 
-// Adds a free slot to the front of the freed list, and returns its index.
 pub(crate) fn list_at<P: PtrKey, T: Drop, S: SlotStack<Item = ArenaSlot<P, T>>>(
     slots: &mut S,
     k: usize,

@@ -1,10 +1,8 @@
-// A ghost total, which only contracts can read. It has no bytes at run time.
 ghost use Rattle.std.specs.Prelude.{◌≡◌, ℕ, ◌+◌};
 ghost use Rattle.std.specs.Borrow.{ftrue};
 
 use std::marker::Model;
 
-// Its only field is an unbounded ghost number, so nothing of it is left in the program.
 #[derive(Drop)]
 pub struct Tally {
     pub ghost count: { ℕ },

@@ -1,4 +1,3 @@
--- Lemmas on options.
 use borrow.Follows.Closed.{read_of}
 use Rattle.std.proofs.Common.{◌≡◌, Option, Some, None, ap, inl, inr, MutBor}
 use Rattle.std.specs.Option.{OnSome, ghost_name_of}

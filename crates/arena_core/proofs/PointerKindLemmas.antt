@@ -1,4 +1,4 @@
--- The kind of pointers that a pointer type's bounds give.
+-- The pointer kind of a bound.
 use Rattle.arena_core.specs.declared.keys.GenKey as generations
 use Rattle.arena_core.specs.declared.keys.InxKey as indexes
 use Rattle.arena_core.specs.declared.keys.PtrKey as pointers

@@ -1,16 +1,14 @@
--- Errors as others, and their texts.
 use Rattle.std.specs.Prelude.{ℕ, List, codes}
 use Rattle.arena_core.specs.declared.errors.ChainInsertionError.{ChainInsertionError}
 use Rattle.arena_core.specs.declared.errors.ChainInsertionError.TheVariants as failed
 use Rattle.arena_core.specs.declared.errors.ReallocationError.{ReallocationError}
 use Rattle.arena_core.specs.declared.errors.ReallocationError.TheVariants as refused
 
--- The error of an insertion whose growth fails for this reason.
+-- The insertion error of a failed growth.
 abbrev pub insertion_error : ReallocationError → ChainInsertionError
 insertion_error refused.BeyondMaxCapacity = failed.BeyondMaxCapacity
 insertion_error refused.AllocError = failed.AllocError
 
--- The texts of errors.
 abbrev pub refusal_text : ReallocationError → List ℕ
 refusal_text refused.AllocError = codes "allocation failed, or no index is left"
 refusal_text refused.BeyondMaxCapacity = codes "beyond the maximum capacity"

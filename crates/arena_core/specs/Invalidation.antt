@@ -1,4 +1,3 @@
--- The value of an invalidation result, and whether the counter overflowed.
 use Rattle.std.specs.Prelude.{Bool, true, false, Option, Some, None}
 use Rattle.arena_core.specs.declared.invalidation.InvalidationOption.{InvalidationOption}
 use Rattle.arena_core.specs.declared.invalidation.InvalidationOption.TheVariants as option

@@ -1,9 +1,8 @@
--- An optional index in a word with a spare number.
 use Rattle.std.specs.Prelude.{◌≡◌, ℕ, ◌==◌, Option, None, Some, zero, suc, refl, if◌then◌else◌}
 use Rattle.std.proofs.Common.{ap, rules}
 use Rattle.arena_core.specs.declared.packed_option.PackedOption.{PackedOption}
 
--- A word is the number of the index, or 0 for none.
+-- The number of the index, or none for 0.
 abbrev pub zero_is_none : {I : Type 0} → PackedOption I ℕ → Option ℕ
 zero_is_none o = if o.word == 0 then None else Some o.word
 

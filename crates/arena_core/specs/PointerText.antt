@@ -1,4 +1,3 @@
--- The text of the parts of a pointer.
 use Rattle.std.specs.Prelude.{ℕ, false, List, ◌++◌, codes}
 use Rattle.std.specs.Fmt.{digits}
 

@@ -1,10 +1,9 @@
--- The items of a stack, its capacity and its optional maximum.
 use Rattle.std.specs.Prelude.{◌≡◌, ◌↔◌, ℕ, ◌<◌, ◌≤◌, List, Option, Some, None, Result, Ok, Err, OnOk, OnErr, ⊤, min}
 use Rattle.std.specs.Coded.{le_prop, Unit-prop}
 use Rattle.arena_core.specs.declared.errors.ReallocationError.{ReallocationError}
 use Rattle.arena_core.specs.declared.errors.ReallocationError.TheVariants as errors
 
--- `n` is above the maximum; false if there is none.
+-- There is a maximum, and `n` is above it.
 abbrev pub IsBeyond : Option ℕ → ℕ → Type 0
 IsBeyond None n = ⊥
 IsBeyond (Some most) n = most < n
@@ -18,12 +17,11 @@ pub IsWithinMaximum-prop : (maximum : Option ℕ) (n : ℕ) → IsProp (IsWithin
 IsWithinMaximum-prop None n = Unit-prop
 IsWithinMaximum-prop (Some most) n = le_prop
 
--- `n`, limited to the maximum, if there is one.
+-- The lesser of `n` and the maximum.
 abbrev pub min_with_maximum : Option ℕ → ℕ → ℕ
 min_with_maximum None n = n
 min_with_maximum (Some most) n = min n most
 
--- Stacks, by their items, their capacity and their maximum.
 module _ {S X : Type 0} (items_of : S → List X) (capacity_of : S → ℕ) (maximum_of : S → Option ℕ) where
   -- The stack has these items, this capacity and this maximum.
   abbrev pub IsStackWith : S → List X → ℕ → Option ℕ → Type 0
@@ -33,12 +31,11 @@ module _ {S X : Type 0} (items_of : S → List X) (capacity_of : S → ℕ) (max
     maximum : maximum_of s ≡ most;
   }
 
-  -- The new items are these; the capacity and the maximum stay the same.
+  -- The items become these, and nothing else changes.
   abbrev pub ChangesItems : S → List X → S → Type 0
   ChangesItems old all new = IsStackWith new all (capacity_of old) (maximum_of old)
 
-  -- The outcome of a growth to a capacity of at least n: no change if the capacity suffices, or else
-  -- a capacity within reach. It is refused beyond the maximum or if an allocation fails.
+  -- The outcome of a growth to a capacity of at least n.
   abbrev pub ReservesTo : (ℕ → Option ℕ → ℕ → ℕ → Type 0) → ℕ → S → Result Unit ReallocationError → S → Type 0
   ReservesTo may_reach n old result new = record {
     items : items_of new ≡ items_of old;

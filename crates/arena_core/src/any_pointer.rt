@@ -1,12 +1,8 @@
-//! A type of pointers under one name, for contracts.
 ghost use Rattle.arena_core.specs.PointerKinds.{PointerKind};
 
 use crate::keys::{GenKey, InxKey, PtrKey};
 
-/// A type of pointers, for contracts that state the effect of any call.
-///
-/// Its `pointers` are what they need of a pointer, an index and a generation. Each `PtrKey`
-/// implements it.
+/// The parts of pointers that contracts of any call use.
 pub trait AnyPointer: PtrKey {
     ghost pointers: { PointerKind Self Self.Inx Self.Gen Self.Inx.Word };
 }

@@ -4,7 +4,7 @@ use std::alloc::{self, AllocFailed};
 use std::error::Error;
 use std::fmt;
 
-/// An allocation failure, or a need for an index above the greatest of its type.
+/// An allocation failed, or the greatest index is exceeded.
 ///
 /// Port of `AllocError`.
 #[derive(Debug, Clone, Copy, PartialEq, Eq)]
@@ -16,7 +16,6 @@ impl From<alloc::AllocError> for AllocError {
     }
 }
 
-// So that `vec.push(x)?` may fail in one function with it. The value is dropped.
 impl<T: Drop> From<AllocFailed<T>> for AllocError {
     fn from(_refused: AllocFailed<T>) -> AllocError {
         AllocError
@@ -33,16 +32,12 @@ impl fmt::Display for AllocError {
 
 impl Error for AllocError {}
 
-/// The reason why a stack or an arena did not grow.
-///
-/// Nothing changes then, unless the function says otherwise.
+/// Why a stack or an arena did not grow.
 ///
 /// Port of `ReallocationError`.
 #[derive(Debug, Clone, Copy, PartialEq, Eq)]
 pub enum ReallocationError {
-    /// Memory was refused, or the size needed is above the greatest index.
     AllocError,
-    /// The size needed is above the stack's maximum.
     BeyondMaxCapacity,
 }
 
@@ -68,7 +63,6 @@ impl From<alloc::AllocError> for ReallocationError {
     }
 }
 
-// So that `vec.push(x)?` and a growth may fail in one function. The value is dropped.
 impl<T: Drop> From<AllocFailed<T>> for ReallocationError {
     ghost use Rattle.std.specs.Prelude.{◌≡◌};
     ghost use Rattle.arena_core.specs.declared.errors.ReallocationError.TheVariants as refused;
@@ -95,7 +89,7 @@ impl fmt::Display for ReallocationError {
 
 impl Error for ReallocationError {}
 
-/// The error of an insertion that does not grow, when the capacity is used up.
+/// The capacity is used up.
 ///
 /// Port of `NotWithinCapacityError`.
 #[derive(Debug, Clone, Copy, PartialEq, Eq)]
@@ -111,7 +105,7 @@ impl fmt::Display for NotWithinCapacityError {
 
 impl Error for NotWithinCapacityError {}
 
-/// The error of setting a maximum below the current capacity of the stack.
+/// The maximum is below the current capacity.
 ///
 /// Port of `MaxCapacityReductionError`.
 #[derive(Debug, Clone, Copy, PartialEq, Eq)]
@@ -127,20 +121,15 @@ impl fmt::Display for MaxCapacityReductionError {
 
 impl Error for MaxCapacityReductionError {}
 
-/// The reason why a link was not inserted.
-///
-/// Nothing changes then, and the value is dropped.
+/// Why a link was not inserted; its value is dropped.
 ///
 /// Port of `ChainInsertionError`.
 #[derive(Debug, Clone, Copy, PartialEq, Eq)]
 pub enum ChainInsertionError {
-    /// The neighbor links do not meet the requirement of the insertion kind. Tested first.
+    /// The neighbors do not fit the insertion kind; tested first.
     FailedLinkRequirement,
-    /// The number of links is the capacity, and the call does not grow.
     NotWithinCapacity,
-    /// Memory was refused, or the size needed is above the greatest index.
     AllocError,
-    /// The size needed is above the stack's maximum.
     BeyondMaxCapacity,
 }
 

@@ -3,10 +3,7 @@ use crate::slot_stack::SlotStack;
 use crate::slots;
 use std::alloc::Global;
 
-/// A slot stack in one heap block, without a maximum.
-///
-/// Growth reaches the size needed or twice the capacity, whichever is greater. So pushing n items
-/// moves fewer than 2 n items in all.
+/// A slot stack in one heap block, which grows to at least twice its capacity.
 #[derive(Drop)]
 pub struct HeapStack<E> {
     slots: Vec<E>,

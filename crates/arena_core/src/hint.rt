@@ -1,10 +1,8 @@
 ghost use Rattle.std.specs.Prelude.{IsTrue};
 
-/// Gives LLVM a fact that each call proves. It has no effect.
+/// Gives LLVM a proved fact.
 ///
-/// Std's `assert_unchecked` compiles to nothing, and `unreachable!()` to a jump to a trap. Here a
-/// false fact writes to the first item of an empty array, so LLVM concludes that it does not occur.
-/// A branch that begins with a false fact is thus removed, with its jump and its condition.
+/// Std's `assert_unchecked` compiles to nothing; here a false fact writes to an empty array.
 #[inline(always)]
 pub fn assume_proved(fact: bool)
     requires { IsTrue fact }
@@ -16,9 +14,7 @@ pub fn assume_proved(fact: bool)
     }
 }
 
-/// Marks an unreachable branch, which is proved at each use.
-///
-/// It replaces `unreachable!()`, which compiles to a jump to a trap, so that the jump remains.
+/// Marks an unreachable branch, without the jump of `unreachable!()`.
 #[macro_export]
 macro_rules! proved_unreachable {
     () => {{

@@ -2,27 +2,24 @@ ghost use Rattle.std.specs.Prelude.{◌≡◌, MatchOption, IsSomeAnd, None, Som
 ghost use Rattle.std.specs.Option.{ForSome};
 ghost use Rattle.arena_core.specs.Invalidation.{value_in, value_within, is_overflow, is_overflow_result, invalidation_option, invalidation_result};
 
-/// The result of an invalidation: a value, and whether the generation counter overflowed to two.
+/// A value, and whether the counter overflowed to two.
 ///
 /// Port of `InvalidationOption`.
 #[derive(Debug, Clone, Copy, PartialEq, Eq, Drop)]
 pub enum InvalidationOption<T> {
-    /// No overflow.
     Success(T),
-    /// The counter overflowed, so pointers from earlier rounds may be valid again.
+    /// Pointers from earlier rounds may be valid again.
     GenerationOverflow(T),
 }
 
-/// The result of invalidating what a pointer or an index names, if that is valid.
+/// An `InvalidationOption`, or an invalid pointer or index.
 ///
 /// Port of `InvalidationResult`.
 #[derive(Debug, Clone, Copy, PartialEq, Eq, Drop)]
 pub enum InvalidationResult<T> {
-    /// No overflow.
     Success(T),
-    /// The counter overflowed, so pointers from earlier rounds may be valid again.
     GenerationOverflow(T),
-    /// The pointer or index is not valid, and nothing changed.
+    /// Nothing changed.
     InvalidPtr,
 }
 
@@ -38,14 +35,14 @@ impl<T> InvalidationOption<T> {
         }
     }
 
-    /// Returns the value, whether or not the counter overflowed.
+    /// Returns the value.
     pub fn allow(self) -> T
         ensures { result ≡ value_in self }
     {
         self.overflowing().0
     }
 
-    /// Returns the value and whether the counter overflowed.
+    /// Returns the value and the overflow.
     pub fn overflowing(self) -> (T, bool)
         ensures { result ≡ (value_in self, is_overflow self) }
     {
@@ -80,14 +77,14 @@ impl<T> InvalidationResult<T> {
         }
     }
 
-    /// Returns the value, whether or not the counter overflowed, or `None` for `InvalidPtr`.
+    /// Returns the value, or `None` for `InvalidPtr`.
     pub fn allow(self) -> Option<T>
         ensures { result ≡ value_within self }
     {
         self.overflowing().0
     }
 
-    /// Returns the value and whether the counter overflowed, or `(None, false)` for `InvalidPtr`.
+    /// Returns the value and the overflow, or `(None, false)` for `InvalidPtr`.
     pub fn overflowing(self) -> (Option<T>, bool)
         ensures { result ≡ (value_within self, is_overflow_result self) }
     {
@@ -98,7 +95,7 @@ impl<T> InvalidationResult<T> {
         }
     }
 
-    /// Applies `f` to the value. `InvalidPtr` stays, and `f` is not called.
+    /// Applies `f` to the value.
     pub fn map<U, F: FnOnce(T) -> U + Drop>(self, f: F) -> InvalidationResult<U>
         requires { ForSome (value_within self) (F.pre f) }
         ensures value { MatchOption (value_within self) (value_within result ≡ None)

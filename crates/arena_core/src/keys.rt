@@ -1,4 +1,3 @@
-// What arenas require of their pointers: no order, hash or texts, to keep their proofs small.
 ghost use Rattle.std.specs.Prelude.{◌≡◌, ℕ, ◌^◌, ◌<◌, ◌≤◌, ◌↔◌, IsSome, IfSome, Option, Some, Bool, true};
 ghost use Rattle.std.specs.Option.{option_map};
 ghost use Rattle.arena_core.specs.declared.packed_option.PackedOption.{PackedOption};
@@ -6,10 +5,9 @@ ghost use Rattle.arena_core.specs.Numbers.{IsWithin};
 
 use crate::packed_option::PackedOption;
 
-/// An index into the slots of an arena: a number from 1 to the greatest of its type.
+/// An index of an arena, from 1.
 ///
-/// Each index type chooses the `Word` that stores an optional index. A type with a spare number
-/// uses its own width, as `Inx32` does, where 0 means `None`:
+/// If a number is spare, `Word` has the index's width, as in `Inx32`, where 0 is `None`:
 ///
 /// ```text
 /// ghost use Rattle.std.specs.Option.{option_map};
@@ -35,8 +33,7 @@ use crate::packed_option::PackedOption;
 /// }
 /// ```
 ///
-/// A type without a spare number stores the `Option` itself. An example is a struct `TinyInx` of
-/// one `bool`, with `number` as its number of an index:
+/// Otherwise it is `Option<Self>`, as for a `TinyInx` of one `bool`, numbered by `number`:
 ///
 /// ```text
 /// ghost use Rattle.std.specs.Prelude.{◌≡◌};
@@ -60,40 +57,34 @@ use crate::packed_option::PackedOption;
 /// }
 /// ```
 ///
-/// Port of `PtrInx`, without order, hash and texts, and over `usize` in place of `NonZeroUsize`.
-/// `is_same` replaces `==`. `Word`, `pack` and `unpack` are added: they replace the niche of
-/// `Option<NonZero>` in Rust.
+/// Port of `PtrInx`.
 pub trait InxKey: Copy {
-    /// The word that stores an optional index: as narrow as the index if a number is spare, else
-    /// `Option<Self>`.
+    /// Stores an optional index.
     type Word: Copy;
 
-    // The number of an index, from 1 to the greatest. Contracts name indexes by it.
     ghost number: { Self → ℕ };
 
-    // Whether two indexes are equal.
     ghost same: { Self → Self → Bool };
 
-    // The number of a packed index, if there is one.
     ghost packed_number: { PackedOption Self Self.Word → Option ℕ };
 
     ghost greatest: { ℕ };
 
-    /// Returns the greatest index of the type, at least 1 and below 2^64.
+    /// Returns the greatest index, below 2^64.
     fn greatest() -> usize
         ensures value { result ≡ greatest }
         ensures some { 1 ≤ result };
 
-    /// Returns the index with number `n`, or `None` if `n` is 0 or above the greatest.
+    /// Returns index `n`, or `None` for 0 or above the greatest.
     fn try_from_usize(n: usize) -> Option<Self>
         ensures variant { IsSome result ↔ ((1 ≤ n) × (n ≤ greatest)) }
         ensures value { IfSome result (λ i. number i ≡ n) };
 
-    /// Returns the number of the index, never `None`, since a `usize` has 64 bits.
+    /// Returns the number, never `None`.
     fn try_into_usize(self) -> Option<usize>
         ensures { result ≡ Some (number self) };
 
-    /// Returns whether both indexes are equal, as `==` does for a `PtrInx`.
+    /// Returns whether both are equal.
     fn is_same(self, other: Self) -> bool
         ensures { result ≡ same self other };
 
@@ -101,7 +92,7 @@ pub trait InxKey: Copy {
     fn pack(i: Option<Self>) -> PackedOption<Self, Self::Word>
         ensures { packed_number result ≡ option_map number i };
 
-    /// Returns the optional index that `packed` stores.
+    /// Unpacks an optional index.
     fn unpack(packed: PackedOption<Self, Self::Word>) -> Option<Self>
         ensures { option_map number result ≡ packed_number packed };
 
@@ -119,31 +110,28 @@ pub trait InxKey: Copy {
         → o ≡ p };
 }
 
-/// A generation, which distinguishes the entries that have used one index.
+/// Distinguishes the entries that have used one index.
 ///
-/// Port of `PtrGen`, without order, hash and texts. `is_same` replaces `==`.
+/// Port of `PtrGen`.
 pub trait GenKey: Copy {
     ghost first: { Self };
 
-    // The generation after a generation.
     ghost following: { Self → Self };
 
-    // Whether a generation is the greatest, after which counting starts again.
     ghost wraps: { Self → Bool };
 
-    // Whether two generations are equal.
     ghost same: { Self → Self → Bool };
 
-    /// Returns the first generation that an arena gives.
+    /// Returns the first generation.
     fn two() -> Self
         ensures { result ≡ first };
 
-    /// Returns the next generation, and whether it overflowed from the greatest to two.
+    /// Returns the next generation, and whether it overflowed to two.
     fn generational_inc(self) -> (Self, bool)
         ensures next { result.0 ≡ following self }
         ensures overflow { result.1 ≡ wraps self };
 
-    /// Returns whether both generations are equal, as `==` does for a `PtrGen`.
+    /// Returns whether both are equal.
     fn is_same(self, other: Self) -> bool
         ensures { result ≡ same self other };
 
@@ -152,28 +140,22 @@ pub trait GenKey: Copy {
     ghost same_is_equal: { (g h : Self) → (same g h ≡ true) ↔ (g ≡ h) };
 }
 
-/// A pointer to an entry of an arena: an index and a generation that determine the pointer.
+/// An index and a generation, which determine a pointer.
 ///
-/// Generic code requires `P: PtrKey`, or `P: Ptr` to order, hash or format pointers.
-///
-/// Port of `Ptr`, without order, hash and texts. `is_same` replaces `==`.
+/// Port of `Ptr`.
 pub trait PtrKey: Copy {
-    /// The type of the index.
     type Inx: InxKey;
 
-    /// The type of the generation, `()` for pointers without one.
+    /// The generation type, or `()`.
     type Gen: GenKey;
 
-    // The index as a number, and the generation, which determine the pointer.
     ghost key: { Self → ℕ × Self.Gen };
 
-    // Whether two pointers are equal.
     ghost same: { Self → Self → Bool };
 
-    /// Returns a placeholder pointer with index 1.
+    /// Returns a placeholder with index 1.
     ///
-    /// Its generation should be 1, which counting never reaches, or `()`. The clause omits that,
-    /// since a type generic in its generation can supply only two.
+    /// Its generation should be one that counting never reaches; a generic type cannot supply it.
     fn invalid() -> Self
         ensures { (key result).0 ≡ 1 };
 
@@ -185,11 +167,11 @@ pub trait PtrKey: Copy {
     fn generation(self) -> Self::Gen
         ensures { result ≡ (key self).1 };
 
-    /// Returns whether both parts of the pointers are equal, as `==` does for a `Ptr`.
+    /// Returns whether both are equal.
     fn is_same(self, other: Self) -> bool
         ensures { result ≡ same self other };
 
-    /// Returns the pointer with this index and generation, whether or not such an entry exists.
+    /// Returns the pointer of these parts.
     fn _from_raw(inx: Self::Inx, generation: Self::Gen) -> Self
         ensures { key result ≡ (Self.Inx.number inx, generation) };
 

@@ -1,5 +1,4 @@
-//! What arenas require: the traits of pointers and of stacks of slots, and the stack in one block;
-//! results, errors and recasting.
+//! The traits of pointers and slot stacks, results and errors.
 #![tactic(auto)]
 
 mod any_pointer;

@@ -4,10 +4,7 @@ use crate::ptr::PtrInx;
 use std::fmt;
 use std::marker::PhantomData;
 
-/// An optional index of type `I` in a word `W`, as narrow as the index if that has a spare number.
-///
-/// The index type gives words their meaning: `PtrInx::pack` makes them, `PtrInx::unpack` reads
-/// them. Not in `triple_arena`: it replaces the niche of `Option<NonZero>` in Rust.
+/// An optional index of type `I` in a word `W`, packed by `InxKey::pack`.
 #[derive(Clone, Copy)]
 #[derive_where(PartialEq, Eq, PartialOrd, Ord, Hash; W)]
 pub struct PackedOption<I, W> {
@@ -39,7 +36,6 @@ impl<W: Copy, I: PtrInx<Word = W>> fmt::Debug for PackedOption<I, W> {
     ghost use Rattle.std.specs.Option.{option_map};
     ghost use Rattle.std.specs.Fmt.{DisplaysOnOk, debug_option};
 
-    /// Writes the packed optional index, as `Option` writes it.
     fn fmt<F: fmt::Write>(&self, f: &mut fmt::Formatter<F>) -> fmt::Result
         ensures { (i : Option I) → option_map I.number i ≡ I.packed_number self.now
             → DisplaysOnOk F.write_str_gives f.old result (debug_option I.debug_output i) f.new }

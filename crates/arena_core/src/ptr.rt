@@ -1,4 +1,3 @@
-// What pointers offer besides: order, hash and texts.
 ghost use Rattle.std.specs.Prelude.{◌≡◌, ℕ, List};
 ghost use Rattle.std.specs.Fmt.{WritesOnOk};
 ghost use Rattle.arena_core.specs.PointerText.{hexadecimal};
@@ -10,9 +9,9 @@ use std::hash::Hash;
 
 /// An index with order, hash and texts.
 ///
-/// The rest of the port of `PtrInx`, with `fmt_hex` added.
+/// Port of `PtrInx`.
 pub trait PtrInx: InxKey + Eq + Ord + Hash + Debug {
-    /// Writes the number in lower-case hexadecimal, without a prefix, ignoring the caller's format.
+    /// Writes lower-case hexadecimal, ignoring the caller's format.
     fn fmt_hex<W: fmt::Write>(self, f: &mut fmt::Formatter<W>) -> fmt::Result
         ensures { WritesOnOk W.write_str_gives f.old result (hexadecimal (Self.number self))
             f.new };
@@ -22,13 +21,12 @@ pub trait PtrInx: InxKey + Eq + Ord + Hash + Debug {
 
 /// A generation with order, hash and texts.
 ///
-/// The rest of the port of `PtrGen`, with `fmt_gen` added.
+/// Port of `PtrGen`.
 pub trait PtrGen: GenKey + Eq + Ord + Hash + Debug {
-    // The text of a generation, as `fmt_gen` writes it.
     ghost text: { Self → List ℕ };
 
-    /// Writes `(`, the generation in lower-case hexadecimal and `)`, ignoring the caller's format.
-    /// Writes nothing for `()`.
+    /// Writes the generation in hexadecimal as `(2)`, or nothing for `()`, ignoring the caller's
+    /// format.
     fn fmt_gen<W: fmt::Write>(self, f: &mut fmt::Formatter<W>) -> fmt::Result
         ensures { WritesOnOk W.write_str_gives f.old result (text self) f.new };
 
@@ -37,13 +35,11 @@ pub trait PtrGen: GenKey + Eq + Ord + Hash + Debug {
 
 /// A pointer with order, hash and texts.
 ///
-/// Two pointers are equal exactly if both parts are.
-///
-/// The rest of the port of `Ptr`.
+/// Port of `Ptr`.
 pub trait Ptr: PtrKey<Inx: PtrInx, Gen: PtrGen> + Eq + Ord + Hash + Debug {
     ghost type_name: { List ℕ };
 
-    /// Returns the name of the pointer type, with which a pointer's text begins.
+    /// Returns the type's name, which begins its text.
     fn name() -> &'static str
         ensures { result.now ≡ type_name };
 

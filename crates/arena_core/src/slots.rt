@@ -1,13 +1,12 @@
-// Growth of stacks that keep their slots in a `Vec`.
 ghost use Rattle.std.specs.Prelude.{◌≡◌, ◌<◌, OnOk, OnErr, ◌≢◌, Err, vec_capacity};
 
 use crate::errors::ReallocationError;
 
-/// Reallocates the slots to a capacity of exactly `n`, which is above the present one.
+/// Reallocates to a capacity of exactly `n`.
 ///
 /// # Errors
 ///
-/// `AllocError`: the allocation failed. Nothing changes then.
+/// - `AllocError`: the allocation failed.
 pub fn reserve_to<E>(slots: &mut Vec<E>, n: usize) -> Result<(), ReallocationError>
     requires { vec_capacity slots.old < n }
     ensures items { slots.new.items ≡ slots.old.items }

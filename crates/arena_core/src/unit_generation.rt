@@ -22,7 +22,6 @@ impl GenKey for () {
 
     fn two() -> Self {}
 
-    /// Returns the only generation, which never overflows.
     fn generational_inc(self) -> (Self, bool) {
         ((), false)
     }
@@ -40,7 +39,6 @@ impl PtrGen for () {
 
     ghost eq_is_same = { λ _ _. refl };
 
-    /// Writes nothing.
     fn fmt_gen<W: fmt::Write>(self, f: &mut fmt::Formatter<W>) -> fmt::Result
         ensures writes { f.new ≡ f.old }
         ensures ok { IsOk result }

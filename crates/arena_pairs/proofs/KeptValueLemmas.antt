@@ -1,4 +1,4 @@
--- A transfer whose closure returns each value that it is passed keeps the values.
+-- Transfers whose closure returns each value keep the values.
 use Rattle.std.proofs.Common.{◌≡◌, ◌≤◌, ℕ, List, [], ◌∷◌, Bool, Option, None, Some, Result, Ok, Err, refl}
 use Rattle.std.specs.Prelude.{IsOk}
 use Rattle.std.specs.Fn.{Mut, Called}
@@ -36,7 +36,6 @@ module _ {P Gen T F : Type 0} (key : P → ℕ × Gen) (following : Gen → Gen)
     rest = moved.rest;
   }
 
--- So the outcome of such a transfer is a step.
 module _ {P I Gen W T F : Type 0} (pointers : PointerKind P I Gen W) (may_reach : ℕ → Option ℕ → ℕ → ℕ → Type 0) (call : Mut F (P × (InvalidationOption T × (P × Unit {0}))) T) (f : F)
     (each : (f : F) (p : P) (value : InvalidationOption T) (q : P) (t : T) (next : F) → Called call f (p, (value, (q, tt))) t next → t ≡ value_in value)
     (source target : Links Gen T) (p : P) (source_after target_after : Links Gen T) where

@@ -1,4 +1,4 @@
--- Calls made one after another on two arenas are a run.
+-- Runs of calls on two arenas.
 use Rattle.std.proofs.Common.{◌≡◌, List, [], ◌∷◌, ◌++◌, length, refl, sym, ap, ◌∙◌, subst, arith, append_assoc, append-nil}
 use Rattle.arena_core.specs.PointerKinds.{PointerKind}
 use Rattle.arena_pairs.specs.PairSteps.{LinksPair, PairStep, PairRun}

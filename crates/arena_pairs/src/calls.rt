@@ -1,25 +1,21 @@
-// Calls on two chain arenas as values, and their replies.
 use arena_ptr::{PtrKey, ReallocationError};
 use chain_arena::{Call, Reply};
 
-/// A call that may change two chain arenas, with its arguments.
+/// A call on two chain arenas.
 #[derive(Drop)]
 pub enum PairCall<P: PtrKey, T> {
-    /// A call on the first arena.
     First(Call<P, T>),
-    /// A call on the second arena.
     Second(Call<P, T>),
-    /// Moves the chain of a pointer from the first arena to the second.
+    /// Moves the chain of a pointer to the second arena.
     TransferToSecond(P),
-    /// Moves the chain of a pointer from the second arena to the first.
+    /// Moves the chain of a pointer to the first arena.
     TransferToFirst(P),
 }
 
-/// The reply to a call on two arenas.
+/// The reply to a call.
 #[derive(Drop)]
 pub enum PairReply<P: PtrKey, T> {
-    /// Of a call on one arena: its reply.
     Replied(Reply<P, T>),
-    /// Of a transfer: the new pointer of the link, `None` if the pointer is not valid, or the error.
+    /// The new pointer, `None` for an invalid one, or the error.
     Transferred(Result<Option<P>, ReallocationError>),
 }

@@ -1,5 +1,4 @@
-//! Calls on two chain arenas as values: the calls on each arena, and transfers of a chain from one
-//! to the other.
+//! Calls on two chain arenas as values.
 #![tactic(auto)]
 
 mod calls;

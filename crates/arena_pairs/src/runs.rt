@@ -1,4 +1,3 @@
-// Lists of calls on two chain arenas.
 ghost use Rattle.std.specs.Prelude.{◌≡◌, IfOk, OnErr, MatchResult};
 ghost use Rattle.chain_laws.specs.Neighbors.{HasOneSetOfChains};
 ghost use Rattle.chain_links.specs.ChainArena.{link_map};
@@ -11,14 +10,11 @@ use arena_ptr::{AllocError, AnyPointer, PtrKey, SlotStack};
 use chain_arena::{ChainArena, LinkNoGen};
 use std::alloc::Allocator;
 
-/// Makes calls on two arenas in order and returns their replies, one per call.
-///
-/// A call that fails changes nothing, its reply reports so, and the later calls are made.
+/// Makes calls in order, and returns one reply per call.
 ///
 /// # Errors
 ///
-/// - `AllocError`: the allocation for the replies failed; no call was made, and nothing has
-///   changed.
+/// - `AllocError`: memory for the replies was refused; no call was made.
 pub fn run_pair_calls<
     P: PtrKey,
     T: Drop,
@@ -37,7 +33,6 @@ pub fn run_pair_calls<
         (λ refused. (first.new ≡ first.old) × (second.new ≡ second.old)) }
 {
     let replies = replies_to(alloc, first, second, calls);
-    // With or without an error, each arena has one set of chains.
     first.invariants();
     second.invariants();
     replies

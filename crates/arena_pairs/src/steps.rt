@@ -1,4 +1,3 @@
-// One call on two chain arenas.
 ghost use Rattle.arena_pairs.specs.PairSteps.{TransferStep, PairStep};
 
 use crate::calls::{PairCall, PairReply};
@@ -6,10 +5,7 @@ use arena_base::ArenaSlot;
 use arena_ptr::{AnyPointer, PtrKey, ReallocationError, SlotStack};
 use chain_arena::{ChainArena, LinkNoGen, apply};
 
-/// Makes one call on two arenas and returns its reply.
-///
-/// A call on one arena leaves the other unchanged. A transfer is that of
-/// `ChainArena::transfer_chain`, and keeps each value. A call that fails changes neither arena.
+/// Makes one call; a transfer keeps the values, and a failed call changes neither arena.
 #[inline(always)]
 pub fn apply_to_pair<P: PtrKey, T: Drop, S: SlotStack<Item = ArenaSlot<P, LinkNoGen<P, T>>>>(
     first: &mut ChainArena<P, T, S>,
@@ -27,7 +23,6 @@ pub fn apply_to_pair<P: PtrKey, T: Drop, S: SlotStack<Item = ArenaSlot<P, LinkNo
     }
 }
 
-// Moves the chain of `p` to another arena with its values, and returns the new pointer of its link.
 fn transfer<P: PtrKey, T: Drop, S: SlotStack<Item = ArenaSlot<P, LinkNoGen<P, T>>>>(
     source: &mut ChainArena<P, T, S>,
     p: P,

@@ -1,4 +1,4 @@
--- Reads and writes in blocks correspond to those in the list of all items.
+-- Reads and writes in blocks.
 use Rattle.std.proofs.Common.{◌≡◌, ℕ, zero, suc, ◌+◌, ◌-◌, ◌*◌, ◌≤◌, ◌<◌, ◌⊎◌, inl, inr, min, List, [], ◌∷◌, ◌++◌, length, length-append, length-take, take, Some, vec_capacity, slice_set, refl, sym, ap, ◌∙◌, subst, append_assoc, append-nil, arith}
 use Rattle.std.specs.Prelude.{slice_get}
 use Rattle.std.specs.Option.{option_and_then}
@@ -38,7 +38,6 @@ module _ {E : Type 0} where
           ∙ (sym (slice_get_past (items_in blocks) (64 * q + r) (omega (arith, rest, few))) ∙ behind)
       by (inr many) behind = slice_get-right block.items (items_in blocks) (64 * suc q + r) (64 * q + r) (omega (arith, filled.0, many)) ∙ behind
 
-  -- Replacing a block by `other` of the same capacity.
   module _ (other : Vec E Global) (e : E) where
     pub push_in : (blocks : List (Vec E Global)) (n q r : ℕ) (block : Vec E Global) → r < 64 → n ≡ 64 * q + r → AreFilled blocks n → slice_get blocks q ≡ Some block
         → other.items ≡ block.items ++ e ∷ [] → vec_capacity other ≡ vec_capacity block

@@ -1,4 +1,4 @@
--- Swaps of two items in a stack of blocks.
+-- Swaps in a stack of blocks.
 use Rattle.std.proofs.Common.{◌≡◌, ◌≢◌, ℕ, ◌+◌, ◌*◌, ◌^◌, ◌/◌, ◌%◌, ◌<◌, List, [], ◌∷◌, length, length-set, Option, None, Some, vec_capacity, slice_set, slice_index_or, swap, refl, sym, ap, ap₂, ◌∙◌, subst, arith}
 use Rattle.std.specs.Prelude.{slice_get}
 use Rattle.std.specs.Vec.{with_item}
@@ -45,7 +45,6 @@ module _ {E : Type 0} (blocks : List (Vec E Global)) (n i j : ℕ) (filled : Are
       ap₂ (λ (u v : E). slice_set (slice_set (items_in blocks) i u) j v) (sym second) (sym first)
       ∙ swap_is (items_in blocks) i j d (omega (arith, i_inside, long)) (omega (arith, j_inside, long))
 
-  -- A swap within one block.
   module _ (block other : Vec E Global) (same : i / 64 ≡ j / 64) (found : slice_get blocks (i / 64) ≡ Some block) (located : i / 64 < length blocks)
       (i_in : i % 64 < length block.items) (j_in : j % 64 < length block.items) (made : other.items ≡ swap block.items (i % 64) (j % 64)) (enough : vec_capacity other ≡ vec_capacity block) where
     pub exchanged_in : (items_in (slice_set blocks (i / 64) other) ≡ swap (items_in blocks) i j) × AreFilled (slice_set blocks (i / 64) other) n
@@ -65,7 +64,7 @@ module _ {E : Type 0} (blocks : List (Vec E Global)) (n i j : ℕ) (filled : Are
           subst (λ (bs : List (Vec E Global)). AreFilled bs n) one second.1,
         )
 
-  -- A swap between two blocks, the first of which is taken out meanwhile.
+  -- A swap between two blocks, the first taken out meanwhile.
   module _ (left right empty one other : Vec E Global) (apart : i / 64 ≢ j / 64) (left_found : slice_get blocks (i / 64) ≡ Some left) (right_found : slice_get blocks (j / 64) ≡ Some right)
       (i_located : i / 64 < length blocks) (i_in : i % 64 < length left.items) (j_in : j % 64 < length right.items)
       (one_made : (d : E) → one.items ≡ slice_set left.items (i % 64) (slice_index_or right.items (j % 64) d)) (one_capacity : vec_capacity one ≡ vec_capacity left)
@@ -91,7 +90,6 @@ module _ {E : Type 0} (blocks : List (Vec E Global)) (n i j : ℕ) (filled : Are
           subst (λ (bs : List (Vec E Global)). AreFilled bs n) (sym both) second.1,
         )
 
--- The blocks found in the stack during that swap.
 module _ {E : Type 0} (s : ChunkStack E) (i j : ℕ) (i_inside : i < s.len) (j_inside : j < s.len) (apart : i / 64 ≢ j / 64) (left right empty : Vec E Global)
     (left_is : left ≡ slice_index_or s.blocks.items (i / 64) left) (right_is : right ≡ slice_index_or (slice_set s.blocks.items (i / 64) empty) (j / 64) right) where
   right_at : right ≡ slice_index_or s.blocks.items (j / 64) right

@@ -1,4 +1,3 @@
--- Positions in a stack of blocks.
 use Rattle.std.proofs.Common.{◌≡◌, ℕ, ◌+◌, ◌*◌, ◌/◌, ◌%◌, ◌^◌, ◌≤◌, ◌<◌, List, [], ◌∷◌, ◌++◌, take, Bool, true, false, if◌then◌else◌, length, length-append, length-set, Option, None, Some, vec_len, vec_capacity, slice_set, slice_index_or, refl, sym, ap, ◌∙◌, subst, arith}
 use Rattle.std.specs.Prelude.{slice_get}
 use Rattle.std.specs.Coded.{le_prop}
@@ -13,7 +12,7 @@ use Rattle.arena_ptr.specs.ChunkStack.{with_item_in, with_item_at}
 use Rattle.arena_ptr.specs.declared.chunk_stack.ChunkStack.{ChunkStack}
 use Rattle.arena_ptr.proofs.BlockLemmas.{get_in, block_in, push_in, pop_in, more_in}
 
--- Writing in a block is writing at the position, for any proof that the blocks are filled.
+-- Writing in a block is writing at the position.
 module _ {E : Type 0} (s : ChunkStack E) (i : ℕ) (e : E) where
   abbrev blocks_with : Vec E Global → Vec (Vec E Global) Global
   blocks_with block = with_item s.blocks (i / 64) (with_item block (i % 64) e)

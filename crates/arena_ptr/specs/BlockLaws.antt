@@ -1,4 +1,3 @@
--- Laws of items in blocks: their number, and the effect of a write in one block.
 use Rattle.std.proofs.Common.{◌≡◌, ℕ, zero, suc, ◌+◌, ◌-◌, ◌*◌, ◌≤◌, ◌<◌, ◌⊎◌, inl, inr, List, [], ◌∷◌, ◌++◌, length, length-append, length-set, take, Some, vec_capacity, slice_set, refl, sym, ap, ◌∙◌, subst, arith}
 use Rattle.std.specs.Prelude.{slice_get}
 use Rattle.std.proofs.lemmas.Bool.{cases_lt}
@@ -38,12 +37,10 @@ module _ {E : Type 0} where
   length-items_in (block ∷ blocks) n filled =
       length-append block.items (items_in blocks) ∙ (let rest = length-items_in blocks (n - 64) filled.1.1 in omega (arith, rest, filled.0))
 
-  -- There are at most as many items as slots.
   pub filled_capacity : (blocks : List (Vec E Global)) (n : ℕ) → AreFilled blocks n → n ≤ 64 * length blocks
   filled_capacity [] n filled = omega (arith, filled)
   filled_capacity (block ∷ blocks) n filled = let rest = filled_capacity blocks (n - 64) filled.1.1 in omega (arith, rest)
 
-  -- Replacing a block by `other` of the same capacity.
   module _ (other : Vec E Global) (e : E) where
     -- Replacing item `r` of block `q` replaces item `64 * q + r`.
     pub set_in : (blocks : List (Vec E Global)) (n q r : ℕ) (block : Vec E Global) → r < 64 → AreFilled blocks n → slice_get blocks q ≡ Some block
@@ -88,6 +85,5 @@ module _ {E : Type 0} where
             let at : (64 * suc q + r) - 64 ≡ 64 * q + r = omega arith in
             sym (set-append_right b.items (items_in blocks) 64 (64 * suc q + r) e (omega (arith, filled.0, many)) (omega arith) ∙ ap (λ (k : ℕ). b.items ++ slice_set (items_in blocks) k e) at)
 
-  -- There are at most as many items as slots.
   pub blocks_have_capacity : (blocks : List (Vec E Global)) (n : ℕ) → AreFilled blocks n → length (items_in blocks) ≤ 64 * length blocks
   blocks_have_capacity blocks n filled = let long = length-items_in blocks n filled in let fits = filled_capacity blocks n filled in omega (arith, long, fits)

@@ -1,4 +1,3 @@
--- Items in blocks of 64 slots.
 use Rattle.std.specs.Prelude.{◌≡◌, ℕ, ◌+◌, ◌-◌, ◌*◌, ◌/◌, ◌≤◌, List, [], ◌∷◌, length, slice_set, slice_index_or, vec_capacity, min, Result, OnOk, OnErr}
 use Rattle.std.specs.Coded.{le_prop, ×_prop, Coded-set, coded_ℕ}
 use Rattle.std.specs.List.{flat_map}
@@ -6,12 +5,10 @@ use Rattle.std.specs.declared.vec.Vec.{Vec}
 use Rattle.std.specs.declared.alloc.Global.{Global}
 
 module _ {E : Type 0} where
-  -- The items of all blocks, in order.
   abbrev pub items_in : List (Vec E Global) → List E
   items_in blocks = flat_map (λ block. block.items) blocks
 
-  -- `n` items are in blocks with capacity for 64 each. Blocks before the last item's block are
-  -- full, and those after it are empty.
+  -- `n` items fill blocks, each with capacity for 64, in order.
   abbrev pub AreFilled : List (Vec E Global) → ℕ → Type 0
   AreFilled [] n = n ≡ 0
   AreFilled (block ∷ blocks) n = (length block.items ≡ min n 64) × ((64 ≤ vec_capacity block) × AreFilled blocks (n - 64))
@@ -24,7 +21,7 @@ module _ {E : Type 0} where
       let rest : IsProp (AreFilled blocks (n - 64)) = AreFilled-prop blocks (n - 64) in
       ×_prop full (×_prop capacity_is rest)
 
-  -- Item i of one list is swapped with item j of another; the capacities stay the same.
+  -- Item i of one list is swapped with item j of another.
   abbrev pub SwapsBetween : (left : Vec E Global) → ℕ → (right : Vec E Global) → ℕ → (left_after right_after : Vec E Global) → Type 0
   SwapsBetween left i right j left_after right_after = record {
     one : (d : E) → left_after.items ≡ slice_set left.items i (slice_index_or right.items j d);
@@ -33,7 +30,7 @@ module _ {E : Type 0} where
     other_capacity : vec_capacity right_after ≡ vec_capacity right;
   }
 
-  -- The result of adding empty blocks until there are `count`; on error there are as many as before.
+  -- Empty blocks are added until there are `count`, or none on error.
   abbrev pub AddsBlocks : {A Error : Type 0} → Result A Error → (old : List (Vec E Global)) → ℕ → (new : List (Vec E Global)) → Type 0
   AddsBlocks returned old count new = record {
     items : items_in new ≡ items_in old;
@@ -41,17 +38,16 @@ module _ {E : Type 0} where
     err : OnErr returned (length new ≡ length old);
   }
 
-  -- These items are in so many blocks.
   abbrev pub AreBlocksWith : List (Vec E Global) → List E → ℕ → Type 0
   AreBlocksWith blocks all count = record {
     items : items_in blocks ≡ all;
     blocks : length blocks ≡ count;
   }
 
-  -- The new items are these, in as many blocks as before.
+  -- The new items are these, in as many blocks.
   abbrev pub ChangesItemsIn : (old : List (Vec E Global)) → List E → (new : List (Vec E Global)) → Type 0
   ChangesItemsIn old all new = AreBlocksWith new all (length old)
 
--- The number of slots in the blocks that `n` items need.
+-- The slots of the blocks that `n` items need.
 abbrev pub slots_for : ℕ → ℕ
 slots_for n = 64 * ((n + 63) / 64)

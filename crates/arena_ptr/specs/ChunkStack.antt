@@ -1,4 +1,3 @@
--- A write in a stack of blocks, and its effect.
 use Rattle.std.specs.Prelude.{◌≡◌, ℕ, zero, suc, List, [], ◌∷◌, ◌+◌, ◌*◌, ◌/◌, ◌%◌, ◌^◌, ◌≤◌, ◌<◌, Option, Some, None, length, slice_get, slice_set}
 use Rattle.std.specs.Vec.{with_item}
 use Rattle.std.specs.declared.vec.Vec.{Vec}
@@ -10,7 +9,6 @@ use Rattle.arena_ptr.specs.BlockLaws.{set_in, length-items_in, filled_capacity, 
 use Rattle.arena_ptr.specs.declared.chunk_stack.ChunkStack.{ChunkStack}
 
 module _ {E : Type 0} where
-  -- The stack with item `i` replaced, if its block is found.
   abbrev pub with_item_in : (s : ChunkStack E) (i : ℕ) (e : E) (found : Option (Vec E Global)) → slice_get s.blocks.items (i / 64) ≡ found → ChunkStack E
   with_item_in s i e None is = s
   with_item_in s i e (Some block) is = record {
@@ -20,11 +18,9 @@ module _ {E : Type 0} where
     fits = subst (λ (k : ℕ). 64 * k + 1 < 2 ^ 64) (sym (length-set s.blocks.items (i / 64) (with_item block (i % 64) e))) s.fits;
   }
 
-  -- The stack after `e` is written at position `i`.
   abbrev pub with_item_at : ChunkStack E → ℕ → E → ChunkStack E
   with_item_at s i e = with_item_in s i e (slice_get s.blocks.items (i / 64)) refl
 
-  -- A write replaces one item.
   pub items_written_at : (s : ChunkStack E) (i : ℕ) (e : E) → items_in (with_item_at s i e).blocks.items ≡ slice_set (items_in s.blocks.items) i e
   items_written_at s i e = by (slice_get s.blocks.items (i / 64)) refl
     where
@@ -42,7 +38,6 @@ module _ {E : Type 0} where
           (set_in (with_item block (i % 64) e) e s.blocks.items s.len (i / 64) (i % 64) block (omega arith) s.filled is refl refl).0
           ∙ ap (λ (k : ℕ). slice_set (items_in s.blocks.items) k e) at
 
-  -- A write keeps the number of slots.
   pub blocks_written_at : (s : ChunkStack E) (i : ℕ) (e : E) → 64 * length (with_item_at s i e).blocks.items ≡ 64 * length s.blocks.items
   blocks_written_at s i e = ap (λ (k : ℕ). 64 * k) (by (slice_get s.blocks.items (i / 64)) refl)
     where
@@ -50,6 +45,5 @@ module _ {E : Type 0} where
       by None is = refl
       by (Some block) is = length-set s.blocks.items (i / 64) (with_item block (i % 64) e)
 
-  -- There are at most as many items as slots.
   pub has_capacity_in : (s : ChunkStack E) → length (items_in s.blocks.items) ≤ 64 * length s.blocks.items
   has_capacity_in s = blocks_have_capacity s.blocks.items s.len s.filled

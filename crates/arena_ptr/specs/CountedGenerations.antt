@@ -1,11 +1,9 @@
--- Generations counted from a first one.
 use Rattle.std.specs.Prelude.{◌≡◌, ℕ, zero, suc, ◌≤◌}
 use Rattle.std.proofs.Common.{ap, arith}
 use Rattle.std.proofs.lemmas.Grind.{common_steps}
 use Rattle.arena_core.specs.Numbers.{next_number}
 
 module _ {Gen : Type 0} (first : Gen) (following : Gen → Gen) where
-  -- The generation after `n` steps.
   abbrev pub generation_after : ℕ → Gen
   generation_after zero = first
   generation_after (suc n) = following (generation_after n)
@@ -14,7 +12,6 @@ module _ {Gen : Type 0} (first : Gen) (following : Gen → Gen) where
   abbrev pub IsNeverCounted : Gen → Type 0
   IsNeverCounted g = (n : ℕ) → generation_after n ≡ g → (h k : Gen) → h ≡ k
 
--- Numbers counted from two never reach one.
 module _ {Gen : Type 0} (number : Gen → ℕ) (greatest : ℕ) (first : Gen) (following : Gen → Gen)
     (begins : number first ≡ 2) (continues : (g : Gen) → number (following g) ≡ next_number greatest (number g)) where
   next_at_least_two : (n : ℕ) → 2 ≤ n → 2 ≤ next_number greatest n

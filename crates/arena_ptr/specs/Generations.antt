@@ -1,4 +1,3 @@
--- The number of a generation, the generation after it, and whether that one wraps to two.
 use Rattle.std.specs.Prelude.{◌≡◌, ℕ, ◌/◌, ◌%◌, ◌==◌, ◌&&◌, ◌↔◌, Bool, true}
 use Rattle.std.proofs.Common.{lit≤, ◌∙◌, ap, arith}
 use Rattle.std.proofs.lemmas.Bool.{and_from, and_parts, eqb-true, eq-eqb}
@@ -26,7 +25,6 @@ pub same_gen8 : (g h : Gen8) → number_of_gen8 g ≡ number_of_gen8 h → g ≡
 same_gen8 g h e =
     same_made {P = IsWithin 0xff} (λ n w. record { number = n; in_range = w }) (IsWithin-prop 0xff) g.number h.number g.in_range h.in_range e
 
--- Two follows the greatest generation.
 pub begins_again8 : (g : Gen8) → is_greatest8 g ≡ true → after8 g ≡ two8
 begins_again8 g greatest = same_gen8 (after8 g) two8 (next_after_greatest 0xff g.number greatest)
 
@@ -49,7 +47,6 @@ pub same_gen16 : (g h : Gen16) → number_of_gen16 g ≡ number_of_gen16 h → g
 same_gen16 g h e =
     same_made {P = IsWithin 0xffff} (λ n w. record { number = n; in_range = w }) (IsWithin-prop 0xffff) g.number h.number g.in_range h.in_range e
 
--- Two follows the greatest generation.
 pub begins_again16 : (g : Gen16) → is_greatest16 g ≡ true → after16 g ≡ two16
 begins_again16 g greatest = same_gen16 (after16 g) two16 (next_after_greatest 0xffff g.number greatest)
 
@@ -59,7 +56,6 @@ eq_is_same_gen16 = eq_is_same_number number_of_gen16 same_gen16
 abbrev pub number_of_gen24 : Gen24 → ℕ
 number_of_gen24 g = number_of_bytes g.high g.middle g.low
 
--- The generation of a number.
 abbrev pub gen24_of : (n : ℕ) → IsWithin 0xff_ffff n → Gen24
 gen24_of n within = record {
   high = n / 0x100 / 0x100;
@@ -105,7 +101,6 @@ eq_is_same_gen24 g h = (
       (and_from _ _ (eq-eqb _ _ (ap (λ (b : Gen24). b.middle) e)) (eq-eqb _ _ (ap (λ (b : Gen24). b.low) e))),
 )
 
--- Two follows the greatest generation.
 pub begins_again24 : (g : Gen24) → is_greatest24 g ≡ true → after24 g ≡ two24
 begins_again24 g greatest = same_gen24 (after24 g) two24 (number_after24 g ∙ next_after_greatest 0xff_ffff (number_of_gen24 g) greatest)
 
@@ -125,7 +120,6 @@ pub same_gen32 : (g h : Gen32) → number_of_gen32 g ≡ number_of_gen32 h → g
 same_gen32 g h e =
     same_made {P = IsWithin 0xffff_ffff} (λ n w. record { number = n; in_range = w }) (IsWithin-prop 0xffff_ffff) g.number h.number g.in_range h.in_range e
 
--- Two follows the greatest generation.
 pub begins_again32 : (g : Gen32) → is_greatest32 g ≡ true → after32 g ≡ two32
 begins_again32 g greatest = same_gen32 (after32 g) two32 (next_after_greatest 0xffff_ffff g.number greatest)
 
@@ -148,7 +142,6 @@ pub same_gen64 : (g h : Gen64) → number_of_gen64 g ≡ number_of_gen64 h → g
 same_gen64 g h e =
     same_made {P = IsWithin 0xffff_ffff_ffff_ffff} (λ n w. record { number = n; in_range = w }) (IsWithin-prop 0xffff_ffff_ffff_ffff) g.number h.number g.in_range h.in_range e
 
--- Two follows the greatest generation.
 pub begins_again64 : (g : Gen64) → is_greatest64 g ≡ true → after64 g ≡ two64
 begins_again64 g greatest = same_gen64 (after64 g) two64 (next_after_greatest 0xffff_ffff_ffff_ffff g.number greatest)
 

@@ -1,4 +1,3 @@
--- The number of an index of each type.
 use Rattle.std.specs.Prelude.{◌≡◌, ℕ, ◌==◌, ◌↔◌, true}
 use Rattle.arena_core.specs.Numbers.{IsWithin, IsWithin-prop, same_made, eq_is_same_number}
 use Rattle.arena_ptr.specs.declared.index.inx8.Inx8.{Inx8}

@@ -1,4 +1,3 @@
--- The key of a `SlimPtr`, its index number and generation, and its text.
 use Rattle.std.specs.Prelude.{◌≡◌, ℕ, ◌==◌, ◌&&◌, ◌↔◌, true, List, ◌++◌, codes}
 use Rattle.std.proofs.Common.{ap}
 use Rattle.std.proofs.lemmas.Bool.{and_from, and_parts}

@@ -1,4 +1,3 @@
--- Numbers of three bytes, from the high one to the low one.
 use Rattle.std.specs.Prelude.{ℕ, ◌+◌, ◌*◌, ◌≤◌}
 use Rattle.std.specs.Coded.{le_prop}
 

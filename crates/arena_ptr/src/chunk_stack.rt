@@ -7,17 +7,13 @@ use arena_core::{ReallocationError, SlotStack};
 use std::alloc::{AllocError, Global};
 use std::mem;
 
-// The number of slots in a block.
 const SLOTS: usize = 64;
 
-// The greatest number of blocks whose slots a `usize` can count.
 const MOST: usize = usize::MAX / SLOTS;
 
-/// A slot stack in blocks of 64 slots, without a maximum.
+/// A slot stack in blocks of 64 slots.
 ///
-/// Growth allocates each missing block separately and moves no item. Only the list of blocks is
-/// moved, when it is full: 24 bytes for 64 slots. If memory for a block is refused, the blocks of
-/// that growth are freed. A lookup takes a shift, a mask and one more read than in `HeapStack`.
+/// Growth moves no item, and frees its blocks if one is refused.
 #[derive(Drop)]
 pub struct ChunkStack<E> {
     blocks: Vec<Vec<E>>,
@@ -26,7 +22,6 @@ pub struct ChunkStack<E> {
     ghost fits: { 64 * length blocks.items + 1 < 2 ^ 64 },
 }
 
-// Swaps an item of one list with one of another.
 fn exchange_items<E>(one: &mut Vec<E>, i: usize, other: &mut Vec<E>, j: usize)
     requires i_in_bounds { i < length one.old.items }
     requires j_in_bounds { j < length other.old.items }
@@ -39,7 +34,6 @@ impl<E: Drop> ChunkStack<E> {
     ghost use Rattle.arena_ptr.specs.ChunkStack.{with_item_at};
     ghost use Rattle.arena_ptr.specs.contracts.chunk_stack.ChunkStack.{the_row};
 
-    // Returns the slot at position `i` for writing.
     fn slot_mut(&mut self, i: usize) -> Option<&mut E>
         ensures* lends { sem 𝓛 (LendsSo (the_row E.row) E.row self.entry result
             (λ new w. OnSome result (new ≡ with_item_at self.old i w))
@@ -52,7 +46,6 @@ impl<E: Drop> ChunkStack<E> {
         Some(&mut self.blocks[i / SLOTS][i % SLOTS])
     }
 
-    // Drops the last item.
     fn pop(&mut self)
         requires { 0 < self.old.len }
         ensures len { self.new.len + 1 ≡ self.old.len }
@@ -63,7 +56,6 @@ impl<E: Drop> ChunkStack<E> {
         self.blocks[self.len / SLOTS].truncate(self.len % SLOTS);
     }
 
-    // Adds an empty block.
     fn add_block(&mut self) -> Result<(), AllocError>
         requires { 64 * length self.old.blocks.items + 65 < 2 ^ 64 }
         ensures len { self.new.len ≡ self.old.len }
@@ -78,7 +70,6 @@ impl<E: Drop> ChunkStack<E> {
         }
     }
 
-    // Adds empty blocks until there are `count`.
     fn add_blocks(&mut self, count: usize) -> Result<(), AllocError>
         requires more { length self.old.blocks.items ≤ count }
         requires few { 64 * count + 1 < 2 ^ 64 }
@@ -94,7 +85,6 @@ impl<E: Drop> ChunkStack<E> {
         Ok(())
     }
 
-    // Swaps two items of different blocks.
     fn exchange_between(&mut self, i: usize, j: usize)
         requires i_in_bounds { i < self.old.len }
         requires j_in_bounds { j < self.old.len }

@@ -1,4 +1,3 @@
-// Generations of 8, 16, 24, 32 and 64 bits.
 mod gen16;
 mod gen24;
 mod gen32;

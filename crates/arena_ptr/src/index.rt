@@ -1,4 +1,3 @@
-// Indexes of 8, 16, 32 and 64 bits.
 mod inx16;
 mod inx32;
 mod inx64;

@@ -1,6 +1,4 @@
-//! The types below the arenas: indexes, generations, pointers, results and errors, slot stacks and
-//! recasting. What arenas require of them is in `arena_core`, whose types and traits are exported
-//! here.
+//! Indexes, generations, pointers and slot stacks.
 #![tactic(auto)]
 
 mod chunk_stack;

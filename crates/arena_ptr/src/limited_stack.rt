@@ -8,9 +8,8 @@ use arena_core::{
 };
 use std::alloc::Global;
 
-/// A slot stack in one heap block, with a maximum once one is set.
-///
-/// Growth reaches the size needed, or twice the capacity within the maximum, whichever is greater.
+/// A slot stack in one heap block, which grows to at least twice its capacity, within an optional
+/// maximum.
 #[derive(Drop)]
 pub struct LimitedStack<E> {
     slots: Vec<E>,
@@ -23,7 +22,6 @@ impl<E> LimitedStack<E> {
     ghost use Rattle.arena_ptr.specs.LimitedStack.{with_item_at};
     ghost use Rattle.arena_ptr.specs.contracts.limited_stack.LimitedStack.{the_row};
 
-    // Returns the slot at position `i` for writing.
     fn slot_mut(&mut self, i: usize) -> Option<&mut E>
         ensures* lends { sem 𝓛 (LendsSo (the_row E.row) E.row self.entry result
             (λ new w. OnSome result (new ≡ with_item_at self.old i w))

@@ -5,11 +5,7 @@ use crate::index::Inx32;
 use arena_core::{Ptr, PtrGen, PtrInx, PtrKey};
 use std::fmt;
 
-/// A pointer of seven bytes, with a 32-bit index, a 24-bit generation and the name `SlimPtr`.
-///
-/// A slot is four bytes narrower than for a [`ToolPtr`](crate::ToolPtr). Its generations return to
-/// two after 16,777,214 removals, in place of 4,294,967,294. It is ordered by index first, then by
-/// generation.
+/// A pointer of a 32-bit index and a 24-bit generation, seven bytes.
 #[derive(Clone, Copy, PartialEq, Eq, PartialOrd, Ord, Hash)]
 pub struct SlimPtr {
     inx: Inx32,
@@ -36,7 +32,7 @@ impl PtrKey for SlimPtr {
 
     ghost same_is_equal = { eq_is_same_slim_ptr };
 
-    /// Returns the pointer with index 1 and generation 1, which counting never reaches.
+    /// Returns a pointer that counting never reaches.
     fn invalid() -> Self
         ensures index { (key_of result).0 ≡ 1 }
         ensures generation { number_of_gen24 (key_of result).1 ≡ 1 }
@@ -83,8 +79,6 @@ impl fmt::Debug for SlimPtr {
 
     ghost debug_output = { λ p. Some (text_of p) };
 
-    /// Writes the name, the index in brackets and the generation in parentheses, in hexadecimal, as
-    /// `SlimPtr[1](2)`.
     fn fmt<W: fmt::Write>(&self, f: &mut fmt::Formatter<W>) -> fmt::Result {
         let SlimPtr { inx, generation } = *self;
         f.write_str(Self::name())?;

@@ -5,10 +5,7 @@ use crate::index::Inx16;
 use arena_core::{Ptr, PtrGen, PtrInx, PtrKey};
 use std::fmt;
 
-/// A pointer of four bytes, with a 16-bit index, a 16-bit generation and the name `TinyPtr`.
-///
-/// An arena has at most 65,535 entries, and its generations return to two after 65,534 removals. It
-/// is ordered by index first, then by generation.
+/// A pointer of a 16-bit index and a 16-bit generation.
 #[derive(Clone, Copy, PartialEq, Eq, PartialOrd, Ord, Hash)]
 pub struct TinyPtr {
     inx: Inx16,
@@ -35,7 +32,7 @@ impl PtrKey for TinyPtr {
 
     ghost same_is_equal = { eq_is_same_tiny_ptr };
 
-    /// Returns the pointer with index 1 and generation 1, which counting never reaches.
+    /// Returns a pointer that counting never reaches.
     fn invalid() -> Self
         ensures index { (key_of result).0 ≡ 1 }
         ensures generation { number_of_gen16 (key_of result).1 ≡ 1 }
@@ -82,8 +79,6 @@ impl fmt::Debug for TinyPtr {
 
     ghost debug_output = { λ p. Some (text_of p) };
 
-    /// Writes the name, the index in brackets and the generation in parentheses, in hexadecimal, as
-    /// `TinyPtr[1](2)`.
     fn fmt<W: fmt::Write>(&self, f: &mut fmt::Formatter<W>) -> fmt::Result {
         let TinyPtr { inx, generation } = *self;
         f.write_str(Self::name())?;

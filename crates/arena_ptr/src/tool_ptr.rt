@@ -5,9 +5,7 @@ use crate::index::Inx32;
 use arena_core::{Ptr, PtrGen, PtrInx, PtrKey};
 use std::fmt;
 
-/// The pointer type of the program, with a 32-bit index, a 32-bit generation and the name `P0`.
-///
-/// It is ordered by index first, then by generation.
+/// A pointer of a 32-bit index and a 32-bit generation.
 #[derive(Clone, Copy, PartialEq, Eq, PartialOrd, Ord, Hash)]
 pub struct ToolPtr {
     inx: Inx32,
@@ -34,7 +32,7 @@ impl PtrKey for ToolPtr {
 
     ghost same_is_equal = { eq_is_same_tool_ptr };
 
-    /// Returns the pointer with index 1 and generation 1, which counting never reaches.
+    /// Returns a pointer that counting never reaches.
     fn invalid() -> Self
         ensures index { (key_of result).0 ≡ 1 }
         ensures generation { number_of_gen32 (key_of result).1 ≡ 1 }
@@ -81,8 +79,6 @@ impl fmt::Debug for ToolPtr {
 
     ghost debug_output = { λ p. Some (text_of p) };
 
-    /// Writes the name, the index in brackets and the generation in parentheses, in hexadecimal, as
-    /// `P0[1](2)`.
     fn fmt<W: fmt::Write>(&self, f: &mut fmt::Formatter<W>) -> fmt::Result {
         let ToolPtr { inx, generation } = *self;
         f.write_str(Self::name())?;

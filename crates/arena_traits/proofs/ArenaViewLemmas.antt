@@ -1,4 +1,4 @@
--- The view of an arena after each call.
+-- The view after each call.
 use Rattle.std.proofs.Common.{◌≡◌, ℕ, zero, suc, ◌+◌, ◌<◌, ◌≤◌, Bool, true, false, cond, List, [], ◌∷◌, ◌++◌, length, Option, None, Some, inl, refl, ap, sym, ◌∙◌, arith}
 use Rattle.std.specs.Prelude.{is_some, count_by, slice_index_or, slice_set}
 use Rattle.std.specs.Option.{option_map}

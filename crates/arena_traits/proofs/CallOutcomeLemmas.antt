@@ -1,4 +1,4 @@
--- What follows from the outcomes of calls on an arena, and how they are reached.
+-- Outcomes of calls.
 use Rattle.std.proofs.Common.{◌≡◌, ℕ, ◌<◌, ◌≤◌, Bool, true, false, Option, None, Some, Result, Ok, Err, ◌↔◌, refl, sym, ap, subst, arith}
 use Rattle.std.specs.Prelude.{IfSome, IfNone, OnSome}
 use Rattle.arena_core.specs.Invalidation.{value_within, invalidation_result}

@@ -1,4 +1,4 @@
--- The entry at each index after a write or a removal.
+-- Entries after a write or a removal.
 use Rattle.std.proofs.Common.{◌≡◌, ◌≢◌, ℕ, List, [], ◌∷◌, Option, None, Some, ⊎_elim, refl, sym, ap, ◌∙◌}
 use Rattle.std.specs.Prelude.{◌==◌, cond}
 use Rattle.std.specs.Option.{option_map}
@@ -7,7 +7,6 @@ use Rattle.arena_traits.specs.Entries.{ArenaView, ArenaState, found, without_ind
 use Rattle.arena_traits.proofs.EntrySearchLemmas.{at_first, past_first, found-gone, found-kept}
 
 module _ {Gen T : Type 0} where
-  -- An entry with another value.
   abbrev pub valued : T → Gen × T → Gen × T
   valued t e = (e.0, t)
 
@@ -32,7 +31,6 @@ module _ {Gen T : Type 0} where
       (cases_eq e.0.0 i)
 
 module _ {A Gen T : Type 0} {view : A → ArenaView Gen T} {entry : A → ℕ → Option (Gen × T)} (state : (a : A) → ArenaState (view a) (entry a)) (a b : A) (i : ℕ) where
-  -- A removal at i empties i, and changes no other entry.
   module _ (removed : (view b).entries ≡ without_index i (view a).entries) where
     pub entry_gone : entry b i ≡ None
     entry_gone = sym ((state b).finds i) ∙ (ap (found i) removed ∙ found-gone i 1 (view a).entries (state a).ascends)
@@ -40,7 +38,6 @@ module _ {A Gen T : Type 0} {view : A → ArenaView Gen T} {entry : A → ℕ �
     pub entry_kept : (k : ℕ) → k ≢ i → entry b k ≡ entry a k
     entry_kept k other = sym ((state b).finds k) ∙ (ap (found k) removed ∙ (found-kept k i (view a).entries other ∙ (state a).finds k))
 
-  -- A write at i changes the value there, and no other entry.
   module _ (t : T) (written : view b ≡ view_with_value (view a) i t) where
     pub value_there : entry b i ≡ option_map (valued t) (entry a i)
     value_there = sym ((state b).finds i) ∙ (ap (λ (s : ArenaView Gen T). found i s.entries) written ∙ (found-written i t (view a).entries ∙ ap (option_map (valued t)) ((state a).finds i)))

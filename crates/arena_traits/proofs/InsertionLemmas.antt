@@ -1,4 +1,4 @@
--- The slot at each index after an insertion.
+-- Slots after an insertion.
 use Rattle.std.proofs.Common.{◌≡◌, ◌≢◌, ℕ, zero, suc, ◌+◌, ◌<◌, ◌≤◌, List, [], ◌∷◌, ◌++◌, length, length-append, Option, None, Some, refl, ap, sym, ◌∙◌, subst, arith, inl}
 use Rattle.std.specs.Prelude.{◌==◌, if◌then◌else◌, slice_index_or, slice_set}
 use Rattle.std.proofs.Math.Dec.{eqb-suc-suc}
@@ -37,7 +37,7 @@ slot_at-written slots zero j x some inside = absurd (omega (arith, some))
 slot_at-written slots (suc k) zero x some inside = sym (if_other 0 (suc k) _ _ (λ is. absurd (omega (arith, is))))
 slot_at-written slots (suc k) (suc j) x some inside = slice_index_or-written slots k j x (omega (arith, inside)) ∙ if_suc j k _ _
 
--- The freed indexes are those of free slots.
+-- Freed indexes are those of free slots.
 abbrev pub AreFree : {X : Type 0} → List (Option X) → List ℕ → Type 0
 AreFree slots freed = (i : ℕ) → IsMember freed i → (slot_at slots i ≡ None) × (1 ≤ i) × (i ≤ length slots)
 

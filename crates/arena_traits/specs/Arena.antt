@@ -1,14 +1,11 @@
--- The state of a generational arena in contracts, and the effect of each call.
 use Rattle.std.specs.Prelude.{◌≡◌, ◌≢◌, ℕ, zero, suc, ◌+◌, ◌≤◌, ◌⊎◌, ⊤, min, Bool, false, List, [], ◌∷◌, ◌++◌, length, count_by, is_some, slice_index_or, slice_set}
 use Rattle.std.specs.Prelude.{Option, None, Some}
 use Rattle.std.specs.Option.{option_map}
 use Rattle.std.specs.Borrow.{Bor}
 use Rattle.arena_core.specs.SlotStack.{IsWithinMaximum}
 
--- Slot `k` has index `k + 1`, and holds an entry (generation and value) or none. An insertion takes
--- the counter as its generation, and as its index the first of the freed list, if there is one.
--- `capacity`, the entries that fit without growth, is the lesser of the stack's capacity and the
--- greatest index. `maximum` is the stack's. `placed` and `touched` count placements and touches.
+-- The state of an arena: slot `k`, with index `k + 1`, holds an entry (generation and value) or
+-- none. An insertion takes the counter and the first freed index.
 pub record Arena (Gen T : Type 0) : Type 0 where
   pub slots : List (Option (Gen × T))
   pub counter : Gen
@@ -20,22 +17,20 @@ pub record Arena (Gen T : Type 0) : Type 0 where
   pub touched : ℕ
 
 module _ {X : Type 0} where
-  -- The item at an index; none at index 0.
+  -- The item at an index; none at 0.
   abbrev pub slot_at : List (Option X) → ℕ → Option X
   slot_at slots zero = None
   slot_at slots (suc k) = slice_index_or slots k None
 
-  -- The slots with the one at an index replaced.
   abbrev pub with_slot : List X → ℕ → X → List X
   with_slot slots zero slot = slots
   with_slot slots (suc k) slot = slice_set slots k slot
 
--- The slots with an entry at the index of the next insertion.
 abbrev pub slots_after_insertion : {X : Type 0} → List ℕ → List (Option X) → X → List (Option X)
 slots_after_insertion [] slots entry = slots ++ Some entry ∷ []
 slots_after_insertion (i ∷ freed) slots entry = with_slot slots i (Some entry)
 
--- The index of the next insertion, given the freed list and the number of slots.
+-- The next insertion's index, given the freed list and the number of slots.
 abbrev pub first_or_next : List ℕ → ℕ → ℕ
 first_or_next [] count = count + 1
 first_or_next (i ∷ freed) count = i
@@ -44,7 +39,6 @@ abbrev pub without_first : List ℕ → List ℕ
 without_first [] = []
 without_first (i ∷ freed) = freed
 
--- `n` is in the list.
 abbrev pub IsMember : List ℕ → ℕ → Type 0
 IsMember [] n = ⊥
 IsMember (m ∷ ms) n = (m ≡ n) ⊎ IsMember ms n
@@ -54,23 +48,22 @@ abbrev pub AreDistinct : List ℕ → Type 0
 AreDistinct [] = ⊤
 AreDistinct (m ∷ ms) = (IsMember ms m → ⊥) × AreDistinct ms
 
--- A capacity is at least `n`, at most the greatest index, and within the maximum.
+-- A capacity is at least `n`, and within the greatest index and the maximum.
 pub record IsCapacityFor (greatest : ℕ) (maximum : Option ℕ) (n capacity : ℕ) : Type 0 where
   pub fits : n ≤ capacity
   pub at_most_greatest : capacity ≤ greatest
   pub within_maximum : IsWithinMaximum maximum capacity
 
--- The counter after `count` entries were cleared. Without entries it stays.
+-- The counter after `count` entries were cleared; without entries it stays.
 abbrev pub counter_after_clear : {Gen : Type 0} → (Gen → Gen) → ℕ → Gen → Gen
 counter_after_clear following zero g = g
 counter_after_clear following (suc count) g = following g
 
--- Whether that counter overflows.
 abbrev pub overflows_after_clear : {Gen : Type 0} → (Gen → Bool) → ℕ → Gen → Bool
 overflows_after_clear wraps zero g = false
 overflows_after_clear wraps (suc count) g = wraps g
 
--- An arena without entries or slots, and with capacity 0.
+-- An arena without entries and slots, of capacity 0.
 abbrev pub new_arena : {Gen T : Type 0} → Gen → Option ℕ → Arena Gen T
 new_arena first maximum = record {
   slots = [];
@@ -84,14 +77,12 @@ new_arena first maximum = record {
 }
 
 module _ {Gen T : Type 0} where
-  -- A pointer, an index and a generation, is valid in the map `entry`: its index has an entry with
-  -- its generation.
+  -- The entry at the index of `p` has its generation.
   pub record IsValid (entry : ℕ → Option (Gen × T)) (p : ℕ × Gen) : Type 0 where
     pub value : T
     pub stored : entry p.0 ≡ Some (p.1, value)
 
-  -- The free index of p gets an entry with p's generation and the value t, and every other entry
-  -- is unchanged.
+  -- The free index of p gets its generation and the value t; nothing else changes.
   pub record IsInserted (entry after : ℕ → Option (Gen × T)) (p : ℕ × Gen) (t : T) : Type 0 where
     pub free : entry p.0 ≡ None
     pub stored : after p.0 ≡ Some (p.1, t)
@@ -104,19 +95,16 @@ module _ {Gen T : Type 0} where
   abbrev pub entry_at : Arena Gen T → ℕ → Option (Gen × T)
   entry_at a i = slot_at a.slots i
 
-  -- The number of entries.
   abbrev pub entry_count : Arena Gen T → ℕ
   entry_count a = count_by is_some a.slots
 
-  -- The index of the next insertion: the first freed one, or else the number of slots plus one.
+  -- The next insertion's index: the first freed one, or else a new one.
   abbrev pub next_index : Arena Gen T → ℕ
   next_index a = first_or_next a.freed (length a.slots)
 
-  -- The arena after a value is inserted at that index.
   abbrev pub insert_next : Arena Gen T → T → Arena Gen T
   insert_next a t = record a { slots = slots_after_insertion a.freed a.slots (a.counter, t); freed = without_first a.freed; placed = a.placed + 1 }
 
-  -- The arena after the entry at an index is removed.
   abbrev pub remove_at : (Gen → Gen) → Arena Gen T → ℕ → Arena Gen T
   remove_at following a i = record a { slots = with_slot a.slots i None; counter = following a.counter; freed = i ∷ a.freed; placed = a.placed + 1 }
 
@@ -127,11 +115,11 @@ module _ {Gen T : Type 0} where
     counter = following a.counter;
   }
 
-  -- The arena with the value at an index replaced, if it has an entry.
+  -- The arena with the value at an index replaced, if any.
   abbrev pub with_value : Arena Gen T → ℕ → T → Arena Gen T
   with_value a i t = record a { slots = with_slot a.slots i (option_map (λ e. (e.0, t)) (entry_at a i)) }
 
-  -- The arena without entries and slots. The counter stays if there were none.
+  -- The arena after a clear; without entries the counter stays.
   abbrev pub arena_after_clear : (Gen → Gen) → Arena Gen T → Arena Gen T
   arena_after_clear following a = record a { slots = []; counter = counter_after_clear following (entry_count a) a.counter; freed = [] }
 
@@ -145,23 +133,21 @@ module _ {Gen T : Type 0} where
   abbrev pub with_capacity_of : Arena Gen T → Arena Gen T → Arena Gen T
   with_capacity_of a b = record a { capacity = b.capacity; stack_capacity = b.stack_capacity }
 
-  -- The capacity is enough for `n` entries and is the lesser of the stack's capacity and the
-  -- greatest index. The stack's capacity is within the maximum.
+  -- The capacity is the lesser of the stack's and the greatest index, and enough for `n` entries.
   abbrev pub HasCapacityFor : ℕ → ℕ → Arena Gen T → Type 0
   HasCapacityFor greatest n a = IsCapacityFor greatest a.maximum n a.capacity × (a.capacity ≡ min a.stack_capacity greatest) × IsWithinMaximum a.maximum a.stack_capacity
 
-  -- The stack's capacity stays, or is one that growth for `n` entries may reach.
+  -- The stack's capacity stays, or is reached by growth for `n` entries.
   abbrev pub IsWithinReach : (ℕ → Option ℕ → ℕ → ℕ → Type 0) → ℕ → Arena Gen T → Arena Gen T → Type 0
   IsWithinReach may_reach n old new = (new.stack_capacity ≡ old.stack_capacity) ⊎ may_reach old.stack_capacity old.maximum n new.stack_capacity
 
-  -- A new arena with capacity for `n` entries. Except for its capacities it is `new_arena`, and it
-  -- is `new_arena` if `n` is 0.
+  -- A new arena, with a capacity that growth for `n` entries may reach.
   pub record IsNewWithCapacity (may_reach : ℕ → Option ℕ → ℕ → ℕ → Type 0) (first : Gen) (maximum : Option ℕ) (n : ℕ) (a : Arena Gen T) : Type 0 where
     pub state : a ≡ with_capacity_of (new_arena first maximum) a
     pub none : n ≡ 0 → a ≡ new_arena first maximum
     pub reached : IsWithinReach may_reach n (new_arena first maximum) a
 
-  -- The new arena has capacity for `n` entries, within reach of the old one.
+  -- The capacity suffices for `n` entries, within reach of the old one.
   pub record ReachesCapacity (may_reach : ℕ → Option ℕ → ℕ → ℕ → Type 0) (greatest n : ℕ) (old new : Arena Gen T) : Type 0 where
     pub capacity : HasCapacityFor greatest n new
     pub reached : IsWithinReach may_reach n old new

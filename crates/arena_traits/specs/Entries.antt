@@ -1,21 +1,17 @@
--- The entries of an arena by ascending index, each with its key (index and generation), and the
--- view of an arena that generic code has.
 use Rattle.std.specs.Prelude.{◌≡◌, ◌↔◌, ℕ, suc, ◌+◌, ◌^◌, ◌<◌, ◌≤◌, ◌==◌, ⊤, cond, List, [], ◌∷◌, ◌++◌, map, reverse, length, drop, All, Option, None, Some, IfSome}
 use Rattle.std.specs.Option.{option_map}
 use Rattle.arena_core.specs.Numbers.{IsWithin}
 use Rattle.arena_core.specs.SlotStack.{IsBeyond}
 use Rattle.arena_traits.specs.Arena.{Arena, slot_at, IsMember, AreDistinct, first_or_next, without_first, counter_after_clear}
 
--- The number of slots, the freed list, first to be used first, and the totals of placements and
--- touches.
+-- The number of slots, the freed list in order of use, and the totals.
 pub record Slots : Type 0 where
   pub count : ℕ
   pub freed : List ℕ
   pub placed : ℕ
   pub touched : ℕ
 
--- The view of an arena in generic code: entries by ascending index, counter and slots if known,
--- capacity, and maximum.
+-- Entries by ascending index, counter and slots if known, capacity, and maximum.
 pub record ArenaView (Gen T : Type 0) : Type 0 where
   pub entries : List ((ℕ × Gen) × T)
   pub counter : Option Gen
@@ -23,11 +19,10 @@ pub record ArenaView (Gen T : Type 0) : Type 0 where
   pub capacity : ℕ
   pub maximum : Option ℕ
 
--- Slot `i` becomes first in the freed list, which counts as a placement.
+-- Slot `i` becomes first in the freed list.
 abbrev pub with_freed : ℕ → Slots → Slots
 with_freed i slots = record slots { freed = i ∷ slots.freed; placed = slots.placed + 1 }
 
--- The index of the next insertion.
 abbrev pub next_slot : Slots → ℕ
 next_slot slots = first_or_next slots.freed slots.count
 
@@ -36,31 +31,27 @@ abbrev pub count_with_next : List ℕ → ℕ → ℕ
 count_with_next [] n = n + 1
 count_with_next (i ∷ freed) n = n
 
--- An insertion fills the first freed slot, or else a new one, and counts as a placement.
+-- An insertion fills the first freed slot, or else a new one.
 abbrev pub with_next_filled : Slots → Slots
 with_next_filled slots = record slots { count = count_with_next slots.freed slots.count; freed = without_first slots.freed; placed = slots.placed + 1 }
 
--- The same slots, with nothing counted.
 abbrev pub with_totals_zero : Slots → Slots
 with_totals_zero slots = record slots { placed = 0; touched = 0 }
 
--- No slots are left.
 abbrev pub without_slots : Slots → Slots
 without_slots slots = record slots { count = 0; freed = [] }
 
 module _ {Gen T : Type 0} where
-  -- The key of an entry at an index.
   abbrev pub key_at : ℕ → Gen × T → ℕ × Gen
   key_at i e = (i, e.0)
 
-  -- The entries of slots, the first of which has index `i`.
+  -- The entries of slots, with first index `i`.
   abbrev pub entries_from : ℕ → List (Option (Gen × T)) → List ((ℕ × Gen) × T)
   entries_from i [] = []
   entries_from i (None ∷ slots) = entries_from (suc i) slots
   entries_from i (Some e ∷ slots) = ((i, e.0), e.1) ∷ entries_from (suc i) slots
 
-  -- The entry is the first one at position `from` or later, counted from 0, and is just before
-  -- position `next`.
+  -- The first entry at position `from` or later, just before position `next`.
   pub record IsNextEntry (slots : List (Option (Gen × T))) (from next : ℕ) (key : ℕ × Gen) (t : T) : Type 0 where
     pub index : key.0 ≡ next
     pub stored : slot_at slots next ≡ Some (key.1, t)
@@ -72,12 +63,11 @@ module _ {Gen T : Type 0} where
   abbrev pub index_of : (ℕ × Gen) × T → ℕ
   index_of e = e.0.0
 
-  -- The entries' indexes and the freed indexes are together 1 to the number of slots, each once.
+  -- The entries and the freed list have each slot's index once.
   pub record CoverSlots (es : List ((ℕ × Gen) × T)) (slots : Slots) : Type 0 where
     pub apart : AreDistinct (map index_of es ++ slots.freed)
     pub all : (i : ℕ) → IsMember (map index_of es ++ slots.freed) i ↔ IsWithin slots.count i
 
-  -- The view of an arena.
   abbrev pub view_of : Arena Gen T → ArenaView Gen T
   view_of a = record {
     entries = entries a;
@@ -92,17 +82,15 @@ module _ {Gen T : Type 0} where
   found i [] = None
   found i (e ∷ es) = cond (e.0.0 == i) (Some (e.0.1, e.1)) (found i es)
 
-  -- The entries without the one at an index.
   abbrev pub without_index : ℕ → List ((ℕ × Gen) × T) → List ((ℕ × Gen) × T)
   without_index i [] = []
   without_index i (e ∷ es) = cond (e.0.0 == i) es (e ∷ without_index i es)
 
-  -- The entries with the one at an index replaced.
   abbrev pub with_replacement : ℕ → (Gen × T → Gen × T) → List ((ℕ × Gen) × T) → List ((ℕ × Gen) × T)
   with_replacement i f [] = []
   with_replacement i f (e ∷ es) = cond (e.0.0 == i) (((i, (f (e.0.1, e.1)).0), (f (e.0.1, e.1)).1) ∷ es) (e ∷ with_replacement i f es)
 
-  -- The indexes of the entries rise, and are at least `i`.
+  -- The indexes of the entries rise from at least `i`.
   abbrev pub AscendsFrom : ℕ → List ((ℕ × Gen) × T) → Type 0
   AscendsFrom i [] = ⊤
   AscendsFrom i (e ∷ es) = (i ≤ e.0.0) × AscendsFrom (suc e.0.0) es
@@ -114,7 +102,6 @@ module _ {Gen T : Type 0} where
   abbrev pub last_key : List ((ℕ × Gen) × T) → Option (ℕ × Gen)
   last_key es = first_key (reverse es)
 
-  -- The view after the entry at an index is removed.
   abbrev pub view_after_removal : (Gen → Gen) → ArenaView Gen T → ℕ → ArenaView Gen T
   view_after_removal following s i = record s {
     entries = without_index i s.entries;
@@ -122,15 +109,14 @@ module _ {Gen T : Type 0} where
     slots = option_map (with_freed i) s.slots;
   }
 
-  -- The view after the entry at a key's index, and the counter, got the key's generation.
+  -- The view after an entry and the counter got a generation.
   abbrev pub view_after_invalidation : ArenaView Gen T → ℕ × Gen → ArenaView Gen T
   view_after_invalidation s p = record s { entries = with_replacement p.0 (λ e. (p.1, e.1)) s.entries; counter = option_map (λ _. p.1) s.counter }
 
-  -- The view after the value at an index is written.
   abbrev pub view_with_value : ArenaView Gen T → ℕ → T → ArenaView Gen T
   view_with_value s i t = record s { entries = with_replacement i (λ e. (e.0, t)) s.entries }
 
-  -- The view after a clear, which leaves no slots. The counter stays if there were no entries.
+  -- The view after a clear; without entries the counter stays.
   abbrev pub view_after_clear : (Gen → Gen) → ArenaView Gen T → ArenaView Gen T
   view_after_clear following s = record s {
     entries = [];
@@ -138,11 +124,9 @@ module _ {Gen T : Type 0} where
     slots = option_map without_slots s.slots;
   }
 
-  -- The view with capacity `n`.
   abbrev pub with_capacity : ArenaView Gen T → ℕ → ArenaView Gen T
   with_capacity s n = record s { capacity = n }
 
-  -- The number of entries.
   abbrev pub count : ArenaView Gen T → ℕ
   count s = length s.entries
 
@@ -153,14 +137,13 @@ module _ {Gen T : Type 0} where
   abbrev pub NeedsBeyondMaximum : ArenaView Gen T → Type 0
   NeedsBeyondMaximum s = (count s ≡ s.capacity) × IsBeyond s.maximum (count s + 1)
 
-  -- A new arena: no entries, no slots, nothing counted, and a counter, if known, at the first
-  -- generation.
+  -- A new arena: nothing in it or counted, and the counter, if known, at the first generation.
   pub record IsNew (first : Gen) (s : ArenaView Gen T) : Type 0 where
     pub entries : s.entries ≡ []
     pub counter : IfSome s.counter (λ g. g ≡ first)
     pub slots : IfSome s.slots (λ slots. slots ≡ record { count = 0; freed = []; placed = 0; touched = 0 })
 
-  -- What holds of the view of every arena, whose pointers have indexes up to the greatest.
+  -- What holds of every arena's view.
   abbrev pub IsSoundView : ℕ → ArenaView Gen T → Type 0
   IsSoundView greatest s = record {
     fits : count s ≤ s.capacity;
@@ -169,7 +152,7 @@ module _ {Gen T : Type 0} where
     filled : IfSome s.slots (CoverSlots s.entries);
   }
 
-  -- A view and the entry at each index, which agree: together the state of an arena.
+  -- A view that agrees with the entry at each index.
   pub record ArenaState (view : ArenaView Gen T) (entry : ℕ → Option (Gen × T)) : Type 0 where
     pub ascends : AscendsFrom 1 view.entries
     pub finds : (i : ℕ) → found i view.entries ≡ entry i

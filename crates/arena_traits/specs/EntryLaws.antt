@@ -1,4 +1,3 @@
--- The entries of slots rise, and a lookup by index among them finds the entry of the slot.
 use Rattle.std.specs.Prelude.{◌≡◌, ℕ, zero, suc, ◌+◌, ◌<◌, ◌≤◌, cond, List, [], ◌∷◌, Option, None, Some, slice_index_or}
 use Rattle.std.proofs.Common.{refl, ap, ◌∙◌, arith}
 use Rattle.std.proofs.lemmas.Bool.{eq-eqb, ne_eqb}
@@ -14,7 +13,6 @@ module _ {Gen T : Type 0} where
   pub entries_ascend : (a : Arena Gen T) → AscendsFrom 1 (entries a)
   entries_ascend a = ascends_later 1 1 a.slots (omega arith)
 
-  -- No entry has an index below the first slot's.
   pub found-below : (i j : ℕ) (slots : List (Option (Gen × T))) → i < j → found i (entries_from j slots) ≡ None
   found-below i j [] below = refl
   found-below i j (None ∷ slots) below = found-below i (suc j) slots (omega (arith, below))
@@ -33,6 +31,5 @@ module _ {Gen T : Type 0} where
   found-entries a zero = found-below 0 1 a.slots (omega arith)
   found-entries a (suc k) = found-entries_from (suc k) 1 k a.slots (omega arith)
 
-  -- An arena's view and its entry at each index.
   abbrev pub arena_state : (a : Arena Gen T) → ArenaState (view_of a) (entry_at a)
   arena_state a = record { ascends = entries_ascend a; finds = found-entries a }

@@ -1,4 +1,3 @@
-// Laws that hold for the entries of any arena.
 ghost use Rattle.std.specs.Prelude.{◌≡◌, ◌≢◌, ℕ, None};
 ghost use Rattle.std.specs.Option.{option_map};
 ghost use Rattle.arena_traits.specs.Entries.{without_index, view_with_value};
@@ -6,10 +5,8 @@ ghost use Rattle.arena_traits.specs.Entries.{without_index, view_with_value};
 use crate::traits::ArenaTrait;
 use arena_core::PtrKey;
 
-/// Proves that the entry list of any arena determines the entry at each index (`same`).
-///
-/// So after a removal from the list, the removed index has no entry (`gone`), and every other index
-/// is unchanged (`kept`).
+/// Proves that the entry list determines each entry (`same`), also after a removal (`gone`,
+/// `kept`).
 pub fn entries_determine_occupancy<P: PtrKey, T: Drop, A: ArenaTrait<P, T>>()
     ensures same { (a b : A) (i : ℕ) → (A.view b).entries ≡ (A.view a).entries
         → A.entry b i ≡ A.entry a i }
@@ -20,10 +17,7 @@ pub fn entries_determine_occupancy<P: PtrKey, T: Drop, A: ArenaTrait<P, T>>()
         → j ≢ i → A.entry b j ≡ A.entry a j }
 {}
 
-/// Proves that a value written at an index changes no other entry.
-///
-/// The entry there keeps its generation (`there`), and every other index is unchanged
-/// (`elsewhere`).
+/// Proves that a write changes one value (`there`) and no other entry (`elsewhere`).
 pub fn writes_change_one_value<P: PtrKey, T: Drop, A: ArenaTrait<P, T>>()
     ensures there { (a b : A) (i : ℕ) (t : T) → A.view b ≡ view_with_value (A.view a) i t
         → A.entry b i ≡ option_map (λ e. (e.0, t)) (A.entry a i) }

@@ -1,4 +1,4 @@
-//! The traits of arenas, and the state of an arena with the effect of each call.
+//! The traits of arenas, and their calls' effects.
 #![tactic(auto)]
 
 mod cursor;

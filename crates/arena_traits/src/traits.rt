@@ -1,4 +1,3 @@
-// The traits by which code can be generic over arenas.
 ghost use Rattle.std.specs.Prelude.{◌≡◌, ℕ, ◌≤◌, ◌↔◌, ⊤, [], IsTrue, IsSome, IfSome, OnSome, IfNone, IfOk, OnOk, OnErr, Some, None, Option, if◌then◌else◌};
 ghost use Rattle.std.specs.Option.{option_map, option_copied_mut};
 ghost use Rattle.std.specs.Borrow.{LendsSo, sem};
@@ -19,20 +18,17 @@ use arena_core::{
 use std::alloc::Global;
 use std::mem;
 
-/// A walk over a collection that is passed to each call, so no borrow is kept.
+/// A walk over a collection that is passed to each call.
 ///
 /// Port of `Advancer`.
 pub trait Advancer<C>: Drop {
-    /// The item that a call returns.
     type Item;
 
-    // A call over this collection returns this item and changes the advancer from the first to the
-    // second.
     ghost gives: { Self → C → Option Self.Item → Self → Type 0 };
 
     ghost is_spent: { Self → Type 0 };
 
-    /// Returns the next item, if there is one.
+    /// Returns the next item, or `None` at the end.
     fn advance(&mut self, collection: &C) -> Option<Self::Item>
         ensures { gives self.old collection.now result self.new };
 
@@ -44,31 +40,23 @@ pub trait Advancer<C>: Drop {
         → gives a c r b → (r ≡ None) × is_spent b };
 }
 
-/// An arena: a finite map from indexes to entries, each a generation and a value.
+/// A finite map from indexes to entries, each a generation and a value.
 ///
-/// The pointer of a removed entry is no longer valid.
-///
-/// Port of `ArenaTrait`, which also returns a generation beside a `&mut`; here only the reads do.
+/// Port of `ArenaTrait`.
 pub trait ArenaTrait<P: PtrKey, T: Drop> {
-    /// The advancer over the pointers of the arena, by ascending or descending index.
     type PtrAdvancer: Advancer<Self, Item = P>;
 
     ghost view: { Self → ArenaView P.Gen T };
 
-    // The generation and the value at each index.
     ghost entry: { Self → ℕ → Option (P.Gen × T) };
 
-    // The view and the entries together: they agree.
     ghost state: { (a : Self) → ArenaState (view a) (entry a) };
 
-    // The cursor of an advancer: where it continues.
     ghost cursor: { Self.PtrAdvancer → Cursor };
 
-    // An arena's own guarantee for a new arena with capacity for so many entries.
+    // An arena's own guarantees, beyond its view.
     ghost starts: { ℕ → Self → Type 0 } = { λ _ _. ⊤ };
 
-    // An arena's own guarantees beyond its view, after calls on the first arena. In turn: growth
-    // for so many entries, writing, invalidation and removal at an index, `clear`, `compress_with`.
     ghost grows: { ℕ → Self → Self → Type 0 } = { λ _ _ _. ⊤ };
 
     ghost writes: { Self → ℕ → T → Self → Type 0 } = { λ _ _ _ _. ⊤ };
@@ -81,37 +69,33 @@ pub trait ArenaTrait<P: PtrKey, T: Drop> {
 
     ghost compresses: { Self → Self → Type 0 } = { λ _ _. ⊤ };
 
-    /// Returns an empty arena with the counter at two and capacity 0, without allocating.
+    /// Returns an empty arena, without allocating.
     fn new(alloc: Global) -> Self
         ensures new { IsNew P.Gen.first (view result) }
         ensures capacity { (view result).capacity ≡ 0 }
         ensures implementation { starts 0 result };
 
-    /// Returns an empty arena with the counter at two and a capacity of at least `n`.
+    /// Returns an empty arena with a capacity of at least `n`.
     ///
     /// # Errors
     ///
-    /// `AllocError`: `n` is above the greatest index or the maximum of a new stack, or an
-    /// allocation failed.
+    /// - `AllocError`: an allocation failed, or `n` is above the greatest index or a new stack's
+    ///   maximum.
     fn with_min_capacity(alloc: Global, n: usize) -> Result<Self, AllocError>
         ensures outcome { StartsWithCapacity view P.Gen.first P.Inx.greatest n result }
         ensures implementation { IfOk result (starts n) };
 
-    /// Returns the number of entries that fit without growth, at most the greatest index and the
-    /// maximum.
+    /// Returns the number of entries that fit without growth.
     fn capacity(&self) -> usize
         ensures value { result ≡ (view self.now).capacity }
         ensures greatest { result ≤ P.Inx.greatest }
         ensures maximum { IsWithinMaximum (view self.now).maximum result };
 
-    /// Returns the greatest capacity that the slots may have, if there is a limit.
+    /// Returns the maximum of the slots, if there is one.
     fn max_capacity(&self) -> Option<usize>
         ensures { result ≡ (view self.now).maximum };
 
-    /// Returns the number of entries, always fewer than `usize::MAX`, so one more can be counted.
-    ///
-    /// Each entry is at an index of the pointer type. If the view has slots, the entries and the
-    /// freed list cover them.
+    /// Returns the number of entries, fewer than `usize::MAX`.
     fn len(&self) -> usize
         ensures count { result ≡ count (view self.now) }
         ensures sound { IsSoundView P.Inx.greatest (view self.now) };
@@ -120,37 +104,33 @@ pub trait ArenaTrait<P: PtrKey, T: Drop> {
     fn is_empty(&self) -> bool
         ensures { IsTrue result ↔ ((view self.now).entries ≡ []) };
 
-    /// Grows to a capacity of at least `n`, or changes nothing if the capacity suffices.
+    /// Grows to a capacity of at least `n`.
     ///
     /// # Errors
     ///
-    /// In the order in which they are tested:
-    ///
     /// - `BeyondMaxCapacity`: `n` is above the maximum.
-    /// - `AllocError`: `n` is above the greatest index, or an allocation failed.
-    ///
-    /// Nothing changes on error.
+    /// - `AllocError`: an allocation failed, or `n` is above the greatest index.
     fn reallocate_min_capacity(&mut self, n: usize) -> Result<(), ReallocationError>
         ensures outcome { Reserves P.Inx.greatest n (view self.old) result (view self.new) }
         ensures enough { n ≤ (view self.old).capacity → self.new ≡ self.old }
         ensures err { OnErr result (self.new ≡ self.old) }
         ensures implementation { grows n self.old self.new };
 
-    /// Returns the generation counter, if the arena has a single one.
+    /// Returns the counter, if there is a single one.
     fn singular_generation(&self) -> Option<P::Gen>
         ensures { result ≡ (view self.now).counter };
 
-    /// Returns whether `p` is valid: an entry with its generation is at its index.
+    /// Returns whether the entry at the index of `p` has its generation.
     fn contains(&self, p: P) -> bool
         ensures { IsTrue result ↔ IsValid (entry self.now) (P.key p) };
 
-    /// Returns the value of an entry, or `None` if `p` is not valid.
+    /// Returns the value of an entry, or `None` if `p` is invalid.
     fn get(&self, p: P) -> Option<&T>
         ensures some { IsSome result ↔ IsValid (entry self.now) (P.key p) }
         ensures value { IfSome result (λ t. entry self.now (P.key p).0 ≡ Some
             ((P.key p).1, t.now)) };
 
-    /// Returns the value of an entry, for writing, or `None` if `p` is not valid.
+    /// Returns the value of an entry for writing, or `None` if `p` is invalid.
     fn get_mut(&mut self, p: P) -> Option<&mut T>
         ensures* writes_back { sem 𝓛 (LendsSo Self.row T.row self.entry result
             (λ new t. OnSome result ((view new ≡ view_with_value (view self.old) (P.key p).0 t)
@@ -159,9 +139,7 @@ pub trait ArenaTrait<P: PtrKey, T: Drop> {
         ensures value { IfSome result (λ t. entry self.old (P.key p).0 ≡ Some
             ((P.key p).1, t.now)) };
 
-    /// Replaces the value of an entry and returns the former one, or `None` if `p` is not valid.
-    ///
-    /// With `None` nothing changes, and `t` is dropped.
+    /// Replaces a value and returns the former one, or `None` if `p` is invalid, dropping `t`.
     final fn replace(&mut self, p: P, t: T) -> Option<T>
         ensures outcome { ReplacesValue state P.key self.old p t result self.new }
         ensures invalid { IfNone result (self.new ≡ self.old) }
@@ -173,11 +151,11 @@ pub trait ArenaTrait<P: PtrKey, T: Drop> {
         }
     }
 
-    /// Returns the generation and the value at an index, or `None` if no entry is there.
+    /// Returns the generation and the value at an index, or `None` without an entry.
     fn get_inx(&self, i: P::Inx) -> Option<(P::Gen, &T)>
         ensures { option_map borrowed_entry result ≡ entry self.now (P.Inx.number i) };
 
-    /// Returns the value at an index, for writing, or `None` if no entry is there.
+    /// Returns the value at an index for writing, or `None` without an entry.
     fn get_inx_mut(&mut self, i: P::Inx) -> Option<&mut T>
         ensures* writes_back { sem 𝓛 (LendsSo Self.row T.row self.entry result
             (λ new t. OnSome result
@@ -186,32 +164,24 @@ pub trait ArenaTrait<P: PtrKey, T: Drop> {
         ensures value { option_copied_mut result ≡ option_map (λ e. e.1)
             (entry self.old (P.Inx.number i)) };
 
-    /// Returns the valid pointer of least index, or `None` if there are no entries.
+    /// Returns the pointer of least index, or `None` without entries.
     fn find_first_inx_ptr(&self) -> Option<P>
         ensures { option_map P.key result ≡ first_key (view self.now).entries };
 
-    /// Returns the valid pointer of greatest index, or `None` if there are no entries.
+    /// Returns the pointer of greatest index, or `None` without entries.
     fn find_last_inx_ptr(&self) -> Option<P>
         ensures { option_map P.key result ≡ last_key (view self.now).entries };
 
     /// Returns an advancer by ascending index.
-    ///
-    /// Each call returns the valid pointer of least index above the last one, in the arena given to
-    /// that call. If there is none it returns `None`, and so does each later call.
     fn advancer(&self) -> Self::PtrAdvancer
         ensures { cursor result ≡ Cursor.Up 1 };
 
-    /// Returns an advancer that starts at index `i` itself, by ascending index or, with `rev`, by
-    /// descending index.
+    /// Returns an advancer from index `i` itself, descending with `rev`.
     fn advancer_inx(&self, i: P::Inx, rev: bool) -> Self::PtrAdvancer
         ensures { cursor result ≡ (if rev then Cursor.Down (P.Inx.number i)
             else Cursor.Up (P.Inx.number i)) };
 
-    /// Increments the counter, makes it the generation of an entry, and returns the entry's new
-    /// pointer.
-    ///
-    /// If the counter wraps to two, that is done all the same, and the pointer is returned in
-    /// `GenerationOverflow`. Returns `InvalidPtr` if `p` is not valid; nothing changes then.
+    /// Gives an entry the incremented counter, and returns its new pointer.
     fn invalidate(&mut self, p: P) -> InvalidationResult<P>
         ensures outcome { InvalidatesEntry state ⟦<P as AnyPointer>⟧.pointers self.old p result
             self.new }
@@ -220,9 +190,6 @@ pub trait ArenaTrait<P: PtrKey, T: Drop> {
             (extra_on_invalidate self.old (P.key p).0 self.new) };
 
     /// Removes an entry, returns its value and increments the counter.
-    ///
-    /// If that wraps to two, the entry is removed and its value returned in `GenerationOverflow`.
-    /// Returns `InvalidPtr` if `p` is not valid; nothing changes then.
     fn remove(&mut self, p: P) -> InvalidationResult<T>
         ensures outcome { RemovesEntry state ⟦<P as AnyPointer>⟧.pointers self.old p result
             self.new }
@@ -230,10 +197,7 @@ pub trait ArenaTrait<P: PtrKey, T: Drop> {
         ensures implementation { OnSome (value_within result)
             (removes self.old (P.key p).0 self.new) };
 
-    /// Removes the entry at an index, returns its generation and value, and increments the counter.
-    ///
-    /// If that wraps to two, the entry is removed and returned in `GenerationOverflow`. Returns
-    /// `InvalidPtr` if no entry is there; nothing changes then.
+    /// Removes the entry at an index, and returns its generation and value.
     fn remove_inx(&mut self, i: P::Inx) -> InvalidationResult<(P::Gen, T)>
         ensures outcome { RemovesEntryAt state ⟦<P as AnyPointer>⟧.pointers self.old i result
             self.new }
@@ -241,24 +205,17 @@ pub trait ArenaTrait<P: PtrKey, T: Drop> {
         ensures implementation { OnSome (value_within result)
             (removes self.old (P.Inx.number i) self.new) };
 
-    /// Removes all entries and slots, and increments the counter once if there were entries.
-    ///
-    /// The capacity stays the same. Returns `GenerationOverflow` if the counter wrapped to two.
+    /// Removes all entries and slots, and increments the counter if there were entries.
     fn clear(&mut self) -> InvalidationOption<()>
         ensures outcome { ClearsEntries state ⟦<P as AnyPointer>⟧.pointers self.old result
             self.new }
         ensures implementation { clears self.old self.new };
 
-    /// Compacts the entries: the entry of the k-th least index is moved to index k.
+    /// Moves the entry of the k-th least index to index k, in this order.
     ///
-    /// In that order, `map` is called once for each entry, with its old pointer, its value, for
-    /// writing, and its new pointer. The counter becomes two with `reset`; otherwise it is
-    /// incremented once if there are entries. It is the new generation of every entry.
-    ///
-    /// Afterwards the slots are exactly the entries, and none is free. The capacity stays the same,
-    /// and no memory is allocated. The time is in proportion to the slots; no clause states it.
-    ///
-    /// Returns `GenerationOverflow` if the counter wrapped to two.
+    /// Calls `map` with each entry's old pointer, value and new pointer. The entries get the
+    /// counter, which is incremented or, with `reset`, two. Takes time in proportion to the slots
+    /// (no clause states it), and does not allocate.
     fn compress_with<F: FnMut(P, &mut T, P) + Drop>(
         &mut self,
         reset: bool,
@@ -271,9 +228,7 @@ pub trait ArenaTrait<P: PtrKey, T: Drop> {
             (view self.new).entries }
         ensures implementation { compresses self.old self.new };
 
-    /// Compacts the entries as `compress_with` does, without a closure. Each value stays the same.
-    ///
-    /// Returns `GenerationOverflow` if the counter wrapped to two.
+    /// Compacts as `compress_with` does, without a closure.
     fn compress(&mut self, reset: bool) -> InvalidationOption<()>
         ensures outcome { CompressesEntries state ⟦<P as AnyPointer>⟧.pointers self.old reset
             result self.new }
@@ -288,83 +243,59 @@ pub trait ArenaTrait<P: PtrKey, T: Drop> {
         (option_map P.key r) (cursor b) };
 }
 
-/// An arena whose capacity grows with the number of its entries, not with their indexes.
+/// An arena whose capacity grows with its entries, not with their indexes.
 ///
-/// Port of `CompactArenaTrait`, a marker without functions.
+/// Port of `CompactArenaTrait`.
 pub trait CompactArenaTrait<P: PtrKey, T: Drop>: ArenaTrait<P, T> {}
 
-/// An arena into which values are inserted without a kind: the implementation chooses the pointer.
-///
-/// Not in `triple_arena`, where each arena has its own insertions.
+/// An arena that chooses the pointer of an inserted value.
 pub trait PlainArenaTrait<P: PtrKey, T: Drop>: ArenaTrait<P, T> {
-    // An arena's own guarantee for the insertion of a value into the first arena.
     ghost inserts: { Self → T → Self → Type 0 } = { λ _ _ _. ⊤ };
 
-    // An arena's own guarantee for the exchange of the values at two indexes of the first arena.
     ghost swaps: { Self → ℕ → ℕ → Self → Type 0 } = { λ _ _ _ _. ⊤ };
 
-    /// Inserts a value within the capacity and returns its pointer.
-    ///
-    /// No entry was at its index. Its generation is the counter, which does not change. Does not
-    /// allocate.
+    /// Inserts a value without growth, and returns its pointer.
     ///
     /// # Errors
     ///
-    /// `NotWithinCapacityError`: there are as many entries as the capacity. Nothing changes then,
-    /// and `t` is dropped.
+    /// - `NotWithinCapacityError`: the arena is full.
+    ///
+    /// On error, nothing changes, and `t` is dropped.
     fn insert_within_capacity(&mut self, t: T) -> Result<P, NotWithinCapacityError>
         ensures outcome { InsertsEntryWithin Self.state P.key self.old t result self.new }
         ensures err { OnErr result (self.new ≡ self.old) }
         ensures implementation { OnOk result (inserts self.old t self.new) };
 
-    /// Inserts a value and returns its pointer; a full arena grows first.
-    ///
-    /// No entry was at its index. Its generation is the counter, which does not change.
+    /// Inserts a value, after growth if the arena is full, and returns its pointer.
     ///
     /// # Errors
     ///
-    /// In the order in which they are tested:
-    ///
-    /// - `BeyondMaxCapacity`: the arena is full, and one entry more is above the maximum.
-    /// - `AllocError`: the arena is full, and one entry more is above the greatest index, or an
-    ///   allocation failed.
-    ///
-    /// On error the arena is unchanged, and `t` is dropped.
+    /// - `BeyondMaxCapacity`: the maximum is reached.
+    /// - `AllocError`: an allocation failed, or the greatest index is reached.
     fn insert_reallocating(&mut self, t: T) -> Result<P, ReallocationError>
         ensures outcome { InsertsEntry Self.state P.key P.Inx.greatest self.old t result self.new }
         ensures err { OnErr result (self.new ≡ self.old) }
         ensures implementation { OnOk result (inserts self.old t self.new) };
 
-    /// Exchanges the values of two entries, or returns `None` if `p` or `q` is not valid.
-    ///
-    /// Pointers and generations stay. With `None` nothing changes, nor does it if `p` is `q`.
+    /// Exchanges the values of two entries, or returns `None` if a pointer is invalid.
     fn swap(&mut self, p: P, q: P) -> Option<()>
         ensures outcome { SwapsValues Self.state P.key self.old p q result self.new }
         ensures invalid { IfNone result (self.new ≡ self.old) }
         ensures implementation { OnSome result (swaps self.old (P.key p).0 (P.key q).0 self.new) };
 }
 
-/// A plain arena of which a copy can be made.
-///
-/// Not in `triple_arena`, where `Clone` is implemented, which cannot report that memory was refused.
+/// A plain arena that can be copied.
 pub trait CloneArenaTrait<P: PtrKey, T: Clone>: PlainArenaTrait<P, T> {
-    // The maximum of new slots.
     ghost initial_maximum: { Option ℕ };
 
-    // An arena's own guarantee for a copy, the second arena, of the first.
     ghost clones: { Self → Self → Type 0 } = { λ _ _. ⊤ };
 
-    /// Returns a copy over new slots, with clones of the values, which have to equal them.
-    ///
-    /// All pointers are valid in the copy, too. A maximum is not copied.
+    /// Returns a copy in which all pointers are valid; a maximum is not copied.
     ///
     /// # Errors
     ///
-    /// In the order in which they are tested:
-    ///
     /// - `BeyondMaxCapacity`: there are more slots than the maximum of new slots.
-    /// - `AllocError`: an allocation failed, for the slots or in the clone of a value. Without
-    ///   slots none can.
+    /// - `AllocError`: an allocation failed, also in a clone.
     fn try_clone(&self, alloc: Global) -> Result<Self, ReallocationError>
         requires clones_equal { (x y : T) → T.is_clone x y → y ≡ x }
         ensures outcome { MakesCopy Self.view P.Inx.greatest initial_maximum self.now result }

@@ -5,9 +5,6 @@ use arena_core::{GenKey, PtrGen};
 use std::fmt;
 
 /// A 16-bit generation, from 1 to 65,535.
-///
-/// Counting starts at 2 and returns to 2 after the greatest. Not in `triple_arena`, which uses
-/// `NonZero` types.
 #[derive(Clone, Copy, Debug, PartialEq, Eq, PartialOrd, Ord, Hash)]
 pub struct Gen16 {
     number: u16,
@@ -17,7 +14,7 @@ pub struct Gen16 {
 impl Gen16 {
     ghost use Rattle.arena_ptr.specs.Generations.{number_of_gen16};
 
-    /// Returns the generation `n`, or `None` exactly if `n` is 0.
+    /// Returns generation `n`, or `None` for 0.
     pub fn new(n: u16) -> Option<Self>
         ensures variant { IsSome result ↔ (1 ≤ n) }
         ensures value { IfSome result (λ g. number_of_gen16 g ≡ n) }
@@ -28,7 +25,7 @@ impl Gen16 {
         }
     }
 
-    /// Returns the number of the generation, at least 1.
+    /// Returns the number.
     pub fn get(self) -> u16
         ensures value { result ≡ number_of_gen16 self }
         ensures some { 1 ≤ result }

@@ -4,14 +4,11 @@ ghost use Rattle.arena_ptr.specs.ThreeBytes.{AreThreeBytes};
 use arena_core::{GenKey, PtrGen};
 use std::fmt;
 
-/// A 24-bit generation, from 1 to 16,777,215, in three bytes.
+/// A generation of three bytes, from 1 to 16,777,215.
 ///
-/// A slot keeps it beside its tag, so with a value of four bytes and 32-bit indexes it takes 20
-/// bytes, and 24 with a [`Gen32`](crate::Gen32).
-///
-/// Counting starts at 2 and returns to 2 after the greatest. Not in `triple_arena`, which uses
-/// `NonZero` types.
-// In the order of the bytes, generations are ordered by their numbers.
+/// With a value of four bytes and 32-bit indexes, a slot takes 20 bytes, and 24 with a
+/// [`Gen32`](crate::Gen32).
+// Ordered by their numbers, from the high byte.
 #[derive(Clone, Copy, PartialEq, Eq, PartialOrd, Ord, Hash)]
 pub struct Gen24 {
     high: u8,
@@ -20,13 +17,12 @@ pub struct Gen24 {
     pub ghost in_range: { AreThreeBytes high middle low },
 }
 
-// The greatest number.
 const GREATEST: u32 = 0xff_ffff;
 
 impl Gen24 {
     ghost use Rattle.arena_ptr.specs.Generations.{number_of_gen24};
 
-    /// Returns the generation `n`, or `None` exactly if `n` is 0 or above 16,777,215.
+    /// Returns generation `n`, or `None` for 0 or above 16,777,215.
     pub fn new(n: u32) -> Option<Self>
         ensures variant { IsSome result ↔ ((1 ≤ n) × (n ≤ 0xff_ffff)) }
         ensures value { IfSome result (λ g. number_of_gen24 g ≡ n) }
@@ -41,7 +37,7 @@ impl Gen24 {
         })
     }
 
-    /// Returns the number of the generation, at least 1.
+    /// Returns the number.
     pub fn get(self) -> u32
         ensures value { result ≡ number_of_gen24 self }
         ensures some { 1 ≤ result }
@@ -86,7 +82,6 @@ impl GenKey for Gen24 {
 }
 
 impl fmt::Debug for Gen24 {
-    /// Writes the number, as `Gen24 { number: 2 }`.
     fn fmt<W: fmt::Write>(&self, f: &mut fmt::Formatter<W>) -> fmt::Result {
         f.debug_struct("Gen24")
             .field("number", &self.get())

@@ -5,9 +5,6 @@ use arena_core::{GenKey, PtrGen};
 use std::fmt;
 
 /// A 32-bit generation, from 1 to 4,294,967,295.
-///
-/// Counting starts at 2 and returns to 2 after the greatest. Not in `triple_arena`, which uses
-/// `NonZero` types.
 #[derive(Clone, Copy, Debug, PartialEq, Eq, PartialOrd, Ord, Hash)]
 pub struct Gen32 {
     number: u32,
@@ -17,7 +14,7 @@ pub struct Gen32 {
 impl Gen32 {
     ghost use Rattle.arena_ptr.specs.Generations.{number_of_gen32};
 
-    /// Returns the generation `n`, or `None` exactly if `n` is 0.
+    /// Returns generation `n`, or `None` for 0.
     pub fn new(n: u32) -> Option<Self>
         ensures variant { IsSome result ↔ (1 ≤ n) }
         ensures value { IfSome result (λ g. number_of_gen32 g ≡ n) }
@@ -28,7 +25,7 @@ impl Gen32 {
         }
     }
 
-    /// Returns the number of the generation, at least 1.
+    /// Returns the number.
     pub fn get(self) -> u32
         ensures value { result ≡ number_of_gen32 self }
         ensures some { 1 ≤ result }

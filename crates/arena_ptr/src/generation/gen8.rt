@@ -5,9 +5,6 @@ use arena_core::{GenKey, PtrGen};
 use std::fmt;
 
 /// An 8-bit generation, from 1 to 255.
-///
-/// Counting starts at 2 and returns to 2 after the greatest. Not in `triple_arena`, which uses
-/// `NonZero` types.
 #[derive(Clone, Copy, Debug, PartialEq, Eq, PartialOrd, Ord, Hash)]
 pub struct Gen8 {
     number: u8,
@@ -17,7 +14,7 @@ pub struct Gen8 {
 impl Gen8 {
     ghost use Rattle.arena_ptr.specs.Generations.{number_of_gen8};
 
-    /// Returns the generation `n`, or `None` exactly if `n` is 0.
+    /// Returns generation `n`, or `None` for 0.
     pub fn new(n: u8) -> Option<Self>
         ensures variant { IsSome result ↔ (1 ≤ n) }
         ensures value { IfSome result (λ g. number_of_gen8 g ≡ n) }
@@ -28,7 +25,7 @@ impl Gen8 {
         }
     }
 
-    /// Returns the number of the generation, at least 1.
+    /// Returns the number.
     pub fn get(self) -> u8
         ensures value { result ≡ number_of_gen8 self }
         ensures some { 1 ≤ result }

@@ -5,8 +5,6 @@ use arena_core::{InxKey, PackedOption, PtrInx};
 use std::fmt;
 
 /// A 64-bit index, from 1 to 18,446,744,073,709,551,615.
-///
-/// Not in `triple_arena`, which uses `NonZero` types.
 #[derive(Clone, Copy, Debug, PartialEq, Eq, PartialOrd, Ord, Hash)]
 pub struct Inx64 {
     number: u64,
@@ -16,7 +14,7 @@ pub struct Inx64 {
 impl Inx64 {
     ghost use Rattle.arena_ptr.specs.Indexes.{number_of_inx64};
 
-    /// Returns the index `n`, or `None` exactly if `n` is 0.
+    /// Returns index `n`, or `None` for 0.
     pub fn new(n: u64) -> Option<Self>
         ensures variant { IsSome result ↔ (1 ≤ n) }
         ensures value { IfSome result (λ i. number_of_inx64 i ≡ n) }
@@ -27,7 +25,7 @@ impl Inx64 {
         }
     }
 
-    /// Returns the number of the index, at least 1.
+    /// Returns the number.
     pub fn get(self) -> u64
         ensures value { result ≡ number_of_inx64 self }
         ensures some { 1 ≤ result }

@@ -1,4 +1,4 @@
--- The slots up to `k` have no holes, and each was read once.
+-- No holes up to `k`, and each slot was read once.
 use Rattle.std.proofs.Common.{◌≡◌, ◌≤◌, ◌+◌}
 use denote.Param.Always.{always_mut}
 use Rattle.arena_base.specs.GatheredSlots.{with_totals}

@@ -1,4 +1,3 @@
--- The slots up to k are copied.
 use Rattle.std.proofs.Common.{◌≡◌}
 use Rattle.arena_base.proofs.SlotCopyLemmas.{IsCopying}
 use Rattle.arena_base.proofs.copy.copy_slots.Given as goal

@@ -1,4 +1,3 @@
--- The slots from a position on are listed.
 use Rattle.std.proofs.Common.{◌≡◌, ◌≤◌, length, map}
 use Rattle.arena_base.specs.Slots.{entry_of}
 use Rattle.arena_base.proofs.TrimLemmas.{IsListing}

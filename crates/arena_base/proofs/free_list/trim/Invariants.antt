@@ -1,4 +1,3 @@
--- The removed slots are free.
 use Rattle.std.proofs.Common.{◌≡◌, ◌≤◌, length, map, take}
 use Rattle.arena_base.specs.Slots.{entry_of}
 use Rattle.arena_base.specs.DetachedSlots.{without_free_end}

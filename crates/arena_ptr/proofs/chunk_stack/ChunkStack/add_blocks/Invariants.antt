@@ -1,4 +1,3 @@
--- Empty blocks are appended.
 use Rattle.std.proofs.Common.{◌≡◌, ◌-◌, ◌≤◌, length}
 use Rattle.arena_ptr.specs.Blocks.{items_in}
 use Rattle.arena_ptr.proofs.chunk_stack.ChunkStack.add_blocks.Given as goal

@@ -1,4 +1,3 @@
--- The first items remain.
 use Rattle.std.proofs.Common.{◌≡◌, ◌-◌, ◌≤◌, length, take}
 use Rattle.arena_ptr.specs.Blocks.{items_in}
 use Rattle.arena_ptr.proofs.chunk_stack.ChunkStackSlotStack.truncate.Given as goal
