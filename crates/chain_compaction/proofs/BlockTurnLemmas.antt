@@ -6,7 +6,6 @@ use Rattle.std.proofs.lemmas.List.{get_or-set_same, get_or-set_other}
 use Rattle.std.proofs.Math.ListN.{length-set}
 use Rattle.chain_compaction.specs.Permutations.{HasDestination, IsInBlock, ListsWaiting}
 
--- The list grows while the slots of a block are processed for the first time.
 module _ {E : Type 0} (goal : E → Option ℕ) (start : ℕ) where
   module _ (positions : List ℕ) (k left i : ℕ) (now next : ℕ → Option E) (lists : ListsWaiting goal start k positions left now) (at : i ≡ (start + k) + 1)
       (stays : (j d : ℕ) (e : E) → (j ≢ i) → HasDestination goal next j e d → HasDestination goal now j e d) where
@@ -36,7 +35,6 @@ module _ {E : Type 0} (goal : E → Option ℕ) (start : ℕ) where
         by j d e in_block w (yes t) = absurd (none d e (subst (λ (x : ℕ). HasDestination goal next x e d) t w))
         by j d e in_block w (no n) = lists.listed j d e (before j in_block n) (stays j d e n w)
 
-    -- The next slot is added to the list.
     module _ (fits : k < 64) where
       abbrev added : List ℕ
       added = slice_set positions left (start + k)
@@ -63,7 +61,6 @@ module _ {E : Type 0} (goal : E → Option ℕ) (start : ℕ) where
           by j d e in_block w (yes t) = (left, omega arith, t ∙ (at ∙ ap (λ (x : ℕ). x + 1) (sym added_at)))
           by j d e in_block w (no n) = let was = lists.listed j d e (before j in_block n) (stays j d e n w) in (was.0, omega (arith, was.1), was.2 ∙ ap (λ (x : ℕ). x + 1) (sym (added_other was.0 was.1)))
 
--- The list shrinks in the turns after the first.
 module _ {E : Type 0} (goal : E → Option ℕ) (start count : ℕ) where
   module _ (positions : List ℕ) (left turn i : ℕ) (now next : ℕ → Option E) (lists : ListsWaiting goal start count positions left now) (low : turn < left) (at : i ≡ slice_index positions turn + 1)
       (stays : (j d : ℕ) (e : E) → (j ≢ i) → HasDestination goal next j e d → HasDestination goal now j e d) where
@@ -81,7 +78,6 @@ module _ {E : Type 0} (goal : E → Option ℕ) (start count : ℕ) where
         by j d e in_block w (yes t) = (turn, low, t ∙ at)
         by j d e in_block w (no n) = lists.listed j d e in_block (stays j d e n w)
 
-    -- If no entry waits at the slot, the last position replaces it in the list.
     module _ (fewer : ℕ) (one_less : fewer + 1 ≡ left) (all : count ≤ 64) (none : (d : ℕ) (e : E) → HasDestination goal next i e d → ⊥) where
       abbrev replaced : List ℕ
       replaced = slice_set positions turn (slice_index positions fewer)

@@ -38,7 +38,6 @@ use Rattle.chain_compaction.proofs.WorkCountLemmas.{counted_none}
 use Rattle.chain_compaction.proofs.SlotCountLemmas.{count-mapped}
 use Rattle.chain_compaction.proofs.ArrangementLemmas.{count-stored, slots-filled, values-filled}
 
--- The link map of slots.
 abbrev pub reported_slots : {Gen T : Type 0} → List (Option (Gen × LinkView T)) → LinkMap
 reported_slots slots i = option_map interlinks_of (slot_at slots i)
 
@@ -192,7 +191,6 @@ module _ {F P Gen K T : Type 0} (g : F → P → P → F → Type 0) (key : P �
   same-length : length h2.slots ≡ length h0.slots
   same-length = length-renamed number (place_in numbered.indexes) h2 h0 numbered.renamed
 
-  -- After the links have moved.
   module _ (h3 : DetachedView Gen (RawLink K T)) (moved : HaveMoved (destination_of number) (Settles number generation) (slot_at h2.slots) (slot_at h3.slots)) where
     all_sent : (i d : ℕ) (x : Gen × LinkView T) → place_in numbered.indexes i ≡ Some d → slot_at first_slots i ≡ Some x → slot_at (detached_view number h3).slots d ≡ Some (generation, renamed_link (place_in numbered.indexes) x.1)
     all_sent i d x at is =

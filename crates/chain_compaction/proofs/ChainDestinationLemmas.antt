@@ -1,5 +1,4 @@
--- The walk that gives the links of a chain their destinations: its beginning, its steps and its
--- end.
+-- The walk that gives the links of a chain their destinations: its beginning, its steps and its end.
 use Rattle.std.proofs.Common.{◌≡◌, ◌≢◌, ℕ, suc, ◌+◌, ◌*◌, ◌<◌, ◌≤◌, ◌⊎◌, inl, inr, List, [], ◌∷◌, ◌++◌, length, map, Option, None, Some, refl, sym, ap, ap₂, ◌∙◌, subst, append_assoc, arith}
 use Rattle.std.specs.Prelude.{◌==◌, if◌then◌else◌}
 use Rattle.std.specs.Option.{option_map, option_and_then}
@@ -111,7 +110,6 @@ module _ {Gen K T : Type 0} (number : K → Option ℕ) where
           ∙ (written_own now new i e w stored wrote number ∙ (same ∙ (sym (ap (option_and_then (destination_of number)) stored) ∙ (n.destinations i ∙ ap (place_in done) (sym s)))))
       after j (no ne) = destination_written now new i e w stored wrote number j ne ∙ n.destinations j
 
--- What the first link of a chain names as `prev`, and the last one as `next`.
 abbrev pub behind_of : Chain → Option ℕ
 behind_of (linear xs) = None
 behind_of (cyclic xs) = last_or xs None
@@ -131,7 +129,6 @@ chain_names link_map c ys i zs h parts = AreLinked-at link_map (behind_of c) ys 
 place-middle : (n : ℕ) (ys : List ℕ) (z : ℕ) (ws : List ℕ) → AreDistinct (ys ++ z ∷ ws) → place_from n (ys ++ z ∷ ws) z ≡ Some (n + length ys)
 place-middle n ys z ws once = place-append n ys (z ∷ ws) z (λ h. AreDistinct-apart ys (z ∷ ws) z once h (inl refl)) ∙ place-same (n + length ys) ws z
 
--- A link while its chain is numbered: the start names no previous link yet.
 abbrev pub begun_link : {T : Type 0} → (ℕ → Option ℕ) → ℕ → ℕ → LinkView T → LinkView T
 begun_link to start j link = record { prev = if j == start then None else option_and_then to link.prev; next = option_and_then to link.next; value = link.value }
 
@@ -158,8 +155,6 @@ named_after (linear xs) n start ys i [] parts once first count at = refl
 named_after (cyclic []) n start ys i [] parts once first count at = refl
 named_after (cyclic (x ∷ xs)) n start ys i [] parts once first count at = sym (place-same (n + 1) xs x)
 
--- The walk has numbered the links so far, and the visitor has seen them. The next link was named by
--- the last, and is to name it.
 pub record IsWalking {Gen K T F P : Type 0} (number : K → Option ℕ) (g : F → P → P → F → Type 0) (key : P → ℕ × Gen) (generation : Gen) (f last : F) (old now : DetachedView Gen (RawLink K T))
     (before after : Arena Gen (RawLink K T)) (count : ℕ) (start : ℕ) (on named prev : Option ℕ) (done : List ℕ) (c : Chain) : Type 0 where
   pub passed : List ℕ
@@ -207,7 +202,6 @@ module _ {Gen K T F P : Type 0} (number : K → Option ℕ) (g : F → P → P �
       by (x ∷ xs) e fits = omega (arith, can.numbered.counts, fits)
 
   module _ (last : F) (now : DetachedView Gen (RawLink K T)) (later : Arena Gen (RawLink K T)) (count : ℕ) (named prev : Option ℕ) where
-    -- The walk ends, and in a cyclic chain the start names the last link.
     module _ (w : IsWalking number g key generation f last old now first later count start None named prev done c) (new : DetachedView Gen (RawLink K T)) (closed : IsRingClosed number start named prev now new) where
       none_ahead : w.ahead ≡ []
       none_ahead = empty w.ahead (sym w.next)

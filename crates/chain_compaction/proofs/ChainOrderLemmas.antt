@@ -52,7 +52,6 @@ no_items : (xs : List ℕ) → ((y : ℕ) → IsMember xs y → ⊥) → xs ≡ 
 no_items [] none = refl
 no_items (x ∷ xs) none = absurd (none x (inl refl))
 
--- The first remaining chain, which has the least remaining index, i.
 record IsNext (rest : List Chain) (i : ℕ) : Type 0 where
   first : Chain
   others : List Chain
@@ -121,8 +120,6 @@ module _ {Gen K T : Type 0} (number : K → Option ℕ) where
           let next = alike (number e.1.next) (λ j s. closed.forward i j m (ap (λ (o : Option (Gen × RawLink K T)). next_in (option_map (body_interlinks number) o)) is ∙ s)) in
           ap (viewed_as e.0) (λ k. record { prev = prev k; next = next k; value = e.1.t })
 
--- The chains with an index up to k are numbered, and the visitor has seen them in order. Reads ahead
--- have cost some touches, and `credit` more are allowed.
 pub record IsOrdering {Gen K T F P : Type 0} (number : K → Option ℕ) (g : F → P → P → F → Type 0) (key : P → ℕ × Gen) (generation : Gen) (f last : F) (old now : DetachedView Gen (RawLink K T))
     (before after : Arena Gen (RawLink K T)) (count k credit : ℕ) : Type 0 where
   pub chains : List Chain
@@ -275,7 +272,6 @@ module _ {Gen K T F P : Type 0} (number : K → Option ℕ) (g : F → P → P �
           lower y h (yes s) = absurd (not_here (subst (IsMember (all_items o.rest)) s h))
           lower y h (no ne) = let low : k < y = o.low y h in omega arith
 
-      -- The next slot holds the first link of the next chain.
       module _ (fresh : is_fresh number (slot_at now.slots i) ≡ true) where
         not_done : IsMember (all_items o.done) i → ⊥
         not_done = not_numbered i fresh
@@ -371,7 +367,6 @@ module _ {Gen K T F P : Type 0} (number : K → Option ℕ) (g : F → P → P �
             let d : length (items the_next.first ++ all_items the_next.others) ≡ length (items the_next.first) + length (all_items the_next.others) = length-append (items the_next.first) (all_items the_next.others) in
             omega arith
 
-        -- The state after a read, which changed nothing.
         module _ (mid : DetachedView Gen (RawLink K T)) (lookup : mid ≡ now) where
           pub order_found : HasChainFrom (link_map_in number mid.slots) i
           order_found = subst (λ (h : DetachedView Gen (RawLink K T)). HasChainFrom (link_map_in number h.slots) i) (sym lookup) found_from
@@ -385,7 +380,6 @@ module _ {Gen K T F P : Type 0} (number : K → Option ℕ) (g : F → P → P �
               subst (λ (h : DetachedView Gen (RawLink K T)). IsStart (link_map_in number h.slots) i (index j)) (sym lookup)
               (start_is (index j) (subst (IsStart (link_map_in number old.slots) i) (sym reads) (subst (λ (n : ℕ). IsStart (link_map_in number old.slots) n (slice_index found (k - first))) here (at (k - first) some))))
 
-          -- The state after the walk back.
           module _ (was_stored : DetachedView Gen (RawLink K T)) (walked : was_stored ≡ mid) (start : ℕ) (from : IsStart (link_map_in number mid.slots) i start) where
             can_number_here : CanNumber number was_stored.slots start count (all_items o.done) the_next.first
             can_number_here = subst (λ (h : DetachedView Gen (RawLink K T)). CanNumber number h.slots start count (all_items o.done) the_next.first) (sym (walked ∙ lookup)) (record {

@@ -23,7 +23,6 @@ use Rattle.chain_compaction.specs.LinkCompressions.{AreGathered}
 use Rattle.chain_links.proofs.LinkStateLemmas.{entry_at-links_view}
 use Rattle.chain_compaction.proofs.ValueViewLemmas.{values_of-links_view}
 
--- Trimming free slots commutes with mapping.
 module _ {X Y : Type 0} (f : X → Y) where
   cut-map : (o : Option X) (slots : List (Option X)) → map (option_map f) (before_cut o slots) ≡ before_cut (option_map f o) (map (option_map f) slots)
   cut-map None [] = refl
@@ -39,7 +38,6 @@ module _ {X Y : Type 0} (f : X → Y) where
   free_from-map (None ∷ slots) i = ap (λ ns. i ∷ ns) (free_from-map slots (suc i))
   free_from-map (Some x ∷ slots) i = free_from-map slots (suc i)
 
--- Trimming keeps what is at each index.
 module _ {X : Type 0} where
   cut-at : (o : Option X) (slots : List (Option X)) (k : ℕ) → slice_index_or (before_cut o slots) k None ≡ slice_index_or (o ∷ slots) k None
   cut-at None [] zero = refl
@@ -77,7 +75,6 @@ values-returned greatest a detached =
     λ i. record (arena_after_return greatest (with_each held_in a) (detached_values detached)) { slots = slots i; freed = freed i }
 
 module _ {F P T Gen K : Type 0} (g : Mut F (P × (MutBor T × (P × Unit {0}))) (Unit {0} × (MutBor T × Unit {0}))) (key : P → ℕ × Gen) (f : F) (number : K → Option ℕ) where
-  -- The links were taken out, moved to the front, and given back.
   module _ (greatest : ℕ) (maximum : Option ℕ) (generation : Gen) (old start finish new : Arena Gen (RawLink K T)) (before after : DetachedView Gen (RawLink K T))
       (is_start : start ≡ arena_without_slots maximum old) (is_before : before ≡ detached_of old) (is_new : new ≡ arena_after_return greatest finish after)
       (closed : AreClosed generation (detached_values before) (detached_values after)) (visits : VisitsAll g key f (entries_from 1 (detached_values before).slots) (entries_from 1 (detached_values after).slots))

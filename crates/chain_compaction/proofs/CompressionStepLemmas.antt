@@ -54,7 +54,6 @@ module _ {F P Gen K T : Type 0} (g : Mut F (P × (MutBor T × (P × Unit {0}))) 
         by None none = refl
         by (Some e) none = absurd (let both = none in cc)
 
-    -- The next slot is free.
     module _ (returned : Option Gen) (none : returned ≡ None) (known : returned ≡ option_map (λ (e : Gen × RawLink K T). e.0) (slot_at now.slots from)) (mid : DetachedView Gen (RawLink K T)) (same : mid ≡ now) where
       free : slot_at (slot_values now.slots) from ≡ None
       free = none_there (slot_at (slot_values now.slots) from) (sym none ∙ (known ∙ generation-there now.slots from))
@@ -76,7 +75,6 @@ module _ {F P Gen K T : Type 0} (g : Mut F (P × (MutBor T × (P × Unit {0}))) 
       pub maximum_kept : now.maximum ≡ old.maximum → mid.maximum ≡ old.maximum
       maximum_kept was = ap (λ (h : DetachedView Gen (RawLink K T)). h.maximum) same ∙ was
 
-    -- The link of the next slot was moved.
     module _ (to : ℕ) (at_to : to ≡ count + 1) (was : Gen) (known : Some was ≡ option_map (λ (e : Gen × RawLink K T). e.0) (slot_at now.slots from)) (mid : DetachedView Gen (RawLink K T))
         (values : detached_values mid ≡ with_placed_entry (detached_values now) from to generation) where
       view_after : Some was ≡ option_map (λ (e : Gen × T). e.0) (slot_at (slot_values now.slots) from)
@@ -90,7 +88,6 @@ module _ {F P Gen K T : Type 0} (g : Mut F (P × (MutBor T × (P × Unit {0}))) 
           brought_stored g key generation first (slot_values old.slots) k count f (slot_values now.slots) closing within from to was (slot_values mid.slots) at_from at_to view_after is_placed
           (ap (option_map held_in) none ∙ value-there mid.slots to)
 
-      -- The closure was called with its value.
       module _ (after : DetachedView Gen (RawLink K T)) (l : RawLink K T) (left : T) (stored : Some l ≡ option_map (λ (e : Gen × RawLink K T). e.1) (slot_at mid.slots to))
           (wrote : after ≡ detached_with_value mid to (record l { t = left })) where
         pub moves_next : (before_ptr after_ptr : P) (next : F) → key before_ptr ≡ (from, was) → key after_ptr ≡ (to, generation)
@@ -114,7 +111,6 @@ module _ {F P Gen K T : Type 0} (g : Mut F (P × (MutBor T × (P × Unit {0}))) 
         pub maximum_on : now.maximum ≡ old.maximum → after.maximum ≡ old.maximum
         maximum_on had = ap (λ (h : DetachedView Gen (RawLink K T)). h.maximum) wrote ∙ (ap (λ (h : DetachedView Gen T). h.maximum) values ∙ had)
 
-  -- All slots are processed.
   module _ (end : ℕ) (is_end : end ≡ length old.slots) (high : k ≤ end) (low : end ≤ k) where
     all : k ≡ length old.slots
     all = omega (arith, is_end, high, low)
@@ -154,7 +150,6 @@ module _ {F P Gen K T : Type 0} (g : Mut F (P × (MutBor T × (P × Unit {0}))) 
         let counts = closing_counts g key generation first (slot_values old.slots) k count f (slot_values now.slots) closing ended in
         subst₂ (IsWork a b) counts (λ i. all i + 3 * counts i) work
 
--- The work of a step.
 module _ {Gen T : Type 0} (a b c : Arena Gen T) (k count : ℕ) (work : IsWork a b count (k + 3 * count)) where
   pub work_skips : c ≡ with_touch b → IsWork a c count ((k + 1) + 3 * count)
   work_skips touched = work-more work (work-touched b c touched) count ((k + 1) + 3 * count) (omega arith) (omega arith)

@@ -22,7 +22,6 @@ use Rattle.chain_links.proofs.MappedArenaLemmas.{map-with_slot, slot_at-map}
 use Rattle.chain_links.proofs.LinkStateLemmas.{slot_at-changed}
 use Rattle.arena_traits.proofs.InsertionLemmas.{slot_at-written}
 
--- A write of one entry that leaves what `f` sees of it.
 module _ {Gen X Y : Type 0} (f : Gen × X → Y) (slots : List (Option (Gen × X))) (n : ℕ) (l w : X)
     (stored : Some l ≡ option_map (λ (e : Gen × X). e.1) (slot_at slots n)) (same : (g : Gen) → f (g, w) ≡ f (g, l)) where
   kept_there : (o : Option (Gen × X)) → Some l ≡ option_map (λ (e : Gen × X). e.1) o → option_map f (option_map (λ (e : Gen × X). (e.0, w)) o) ≡ option_map f o
@@ -37,7 +36,6 @@ module _ {Gen X Y : Type 0} (f : Gen × X → Y) (slots : List (Option (Gen × X
       by zero is = refl
       by (suc k) is = map-set_same (option_map f) slots k (option_map (λ (e : Gen × X). (e.0, w)) (slot_at slots (suc k))) None (kept_there (slot_at slots (suc k)) is)
 
--- An occupied slot was written.
 module _ {Gen K T : Type 0} (detached new : DetachedView Gen (RawLink K T)) (n : ℕ) (l w : RawLink K T)
     (stored : Some l ≡ option_map (λ (e : Gen × RawLink K T). e.1) (slot_at detached.slots n)) (wrote : new ≡ detached_with_value detached n w) where
   pub values-kept : w.t ≡ l.t → detached_values new ≡ detached_values detached
@@ -89,7 +87,6 @@ module _ {Gen K T : Type 0} (detached new : DetachedView Gen (RawLink K T)) (n :
   links-with_prev_at number prev rest named =
       ap (λ (h : DetachedView Gen (RawLink K T)). link_map_in number h.slots) wrote ∙ fun_ext (links-changed number (with_prev prev) (λ i. record { prev = named i; next = number (rest i).next }))
 
--- Setting the interlinks of a free slot changes nothing.
 module _ {Gen K T : Type 0} (number : K → Option ℕ) (slots : List (Option (Gen × RawLink K T))) (n : ℕ)
     (none : None ≡ option_map (λ (e : Gen × RawLink K T). e.1) (slot_at slots n)) where
   nothing_reported : link_map_in number slots n ≡ None
@@ -168,7 +165,6 @@ module _ {Gen K T : Type 0} (detached : DetachedView Gen (RawLink K T)) (from to
           ap (option_map (body_interlinks number)) (at_to j ∙ (if_other j to _ _ c ∙ (at_from j ∙ if_other j from _ _ d)))
           ∙ sym (if_other j to _ _ c ∙ if_other j from _ _ d)
 
--- A link is read, placed, and its neighbors are updated.
 module _ {Gen K T : Type 0} (number : K → Option ℕ) (old was_read brought known new : DetachedView Gen (RawLink K T)) (from to : ℕ) (generation : Gen)
     (is_read : was_read ≡ old) (is_brought : brought ≡ with_placed_entry was_read from to generation) where
   pub move-values : detached_values known ≡ detached_values brought → detached_values new ≡ detached_values known → detached_values new ≡ with_placed_entry (detached_values old) from to generation

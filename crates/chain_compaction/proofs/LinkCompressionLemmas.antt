@@ -17,7 +17,6 @@ use Rattle.chain_links.specs.Links.{held_in}
 use Rattle.chain_compaction.specs.DetachedLinks.{slot_values, body_interlinks, link_map_in, indexes_in}
 use Rattle.chain_links.proofs.MappedArenaLemmas.{slot_at-map}
 
--- The indexes of the entries in the first k slots.
 abbrev pub indexes_to : {Gen T : Type 0} → ℕ → List (Option (Gen × T)) → List ℕ
 indexes_to k slots = indexes_in (take k slots)
 
@@ -34,7 +33,6 @@ module _ {Gen T : Type 0} (slots : List (Option (Gen × T))) (k : ℕ) (below : 
   indexes-met : (e : Gen × T) → slice_index_or slots k None ≡ Some e → indexes_to (k + 1) slots ≡ indexes_to k slots ++ (k + 1) ∷ []
   indexes-met e some = indexes-next (Some e) some ∙ map-append index_of (entries_from 1 (take k slots)) (((k + 1, e.0), e.1) ∷ [])
 
--- The entry at an index, and its value.
 module _ {Gen K T : Type 0} (slots : List (Option (Gen × RawLink K T))) (i : ℕ) where
   pub generation-there : option_map (λ (e : Gen × RawLink K T). e.0) (slot_at slots i) ≡ option_map (λ (e : Gen × T). e.0) (slot_at (slot_values slots) i)
   generation-there = by (slot_at slots i) ∙ ap (option_map (λ (e : Gen × T). e.0)) (sym (slot_at-map (on_value held_in) slots i))
@@ -71,7 +69,6 @@ module _ {Gen K T : Type 0} (number : K → Option ℕ) (slots : List (Option (G
       by None is = absurd (let both = sym some ∙ (at_slot ∙ ap (option_map (on_value held_in)) is) in cc)
       by (Some d) is = record { link = body_interlinks number d; links = ap (option_map (body_interlinks number)) is }
 
--- The `count` links up to k are at the indexes from 1 on.
 pub record AreGathered {Gen K T : Type 0} (number : K → Option ℕ) (old now : List (Option (Gen × RawLink K T))) (k count : ℕ) : Type 0 where
   pub gathering : IsGathering (link_map_in number old) (link_map_in number now) (indexes_to k (slot_values old)) k
   pub counted : length (indexes_to k (slot_values old)) ≡ count
@@ -93,7 +90,6 @@ module _ {Gen K T : Type 0} (number : K → Option ℕ) (old : List (Option (Gen
           counted = ap (λ done. length done) same ∙ c.counted;
         }
 
-    -- The next link is moved to the first free index.
     module _ (was : Gen) (some : Some was ≡ option_map (λ (e : Gen × T). e.0) (slice_index_or (slot_values old) k None)) where
       arrives : (e : Gen × T) × (slice_index_or (slot_values old) k None ≡ Some e)
       arrives = by (slice_index_or (slot_values old) k None) some

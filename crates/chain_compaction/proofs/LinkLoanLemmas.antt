@@ -13,14 +13,12 @@ use Rattle.chain_compaction.specs.WorkCounts.{CountsWork}
 use Rattle.chain_compaction.proofs.WorkCountLemmas.{counts_touch}
 
 module _ {P T S Inx Gen Word : Type 0} (old new : Compactor P T S Inx Gen Word) (i : ℕ) where
-  -- The value l at i was overwritten by w.
   pub record IsOverwritten (l w : T) : Type 0 where
     pub stored : Some l ≡ option_map (λ e. e.1) (slot_at old.detached.slots i)
     pub detached : new.detached ≡ detached_with_value old.detached i w
     pub arena : new.arena.now ≡ with_touch old.arena.now
     pub counts : CountsWork old new
 
-  -- There was no value at i.
   pub record IsUntouched : Type 0 where
     pub none : None ≡ option_map (λ e. e.1) (slot_at old.detached.slots i)
     pub detached : new.detached ≡ old.detached
@@ -58,7 +56,6 @@ pub overwritten_rests : {P K T S Inx Gen Word : Type 0} (number : K → Option �
     → number w.destination ≡ number link.destination → StayAtRest number old.detached.slots new.detached.slots
 overwritten_rests number old new i link w wrote same rest = subst (λ detached. AreAtRest number detached.slots) (sym wrote.detached) (written_at_rest number old.detached.slots i link w (sym wrote.stored) same rest)
 
--- Two calls after one another.
 module _ {P T S Inx Gen Word : Type 0} (a b c : Compactor P T S Inx Gen Word) where
   pub detached_then : b.detached ≡ a.detached → c.detached ≡ b.detached → c.detached ≡ a.detached
   detached_then one two = two ∙ one

@@ -18,11 +18,9 @@ use Rattle.chain_compaction.specs.Destinations.{renamed_link, renamed_detached, 
 use Rattle.chain_links.proofs.MappedArenaLemmas.{slot_at-map}
 use Rattle.chain_links.proofs.LinkStateLemmas.{slot_at-changed}
 
--- An entry as seen, with another link.
 abbrev pub viewed_as : {Gen T : Type 0} → Gen → LinkView T → Option (Gen × LinkView T)
 viewed_as g l = Some (g, l)
 
--- A link was overwritten.
 module _ {Gen K T : Type 0} (now new : DetachedView Gen (RawLink K T)) (i : ℕ) (e : Gen × RawLink K T) (w : RawLink K T) (stored : slot_at now.slots i ≡ Some e) (wrote : new ≡ detached_with_value now i w) where
   abbrev written : Option (Gen × RawLink K T) → Option (Gen × RawLink K T)
   written o = option_map (λ (e : Gen × RawLink K T). (e.0, w)) o
@@ -52,7 +50,6 @@ module _ {Gen K T : Type 0} (now new : DetachedView Gen (RawLink K T)) (i : ℕ)
   written_own number = ap (option_and_then (destination_of number)) written_there
 
 module _ {Gen K T : Type 0} (number : K → Option ℕ) where
-  -- The view of the entry at an index.
   abbrev pub viewed_at : DetachedView Gen (RawLink K T) → ℕ → Option (Gen × LinkView T)
   viewed_at h j = option_map (pair_view number) (slot_at h.slots j)
 

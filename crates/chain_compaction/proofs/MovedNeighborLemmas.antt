@@ -21,7 +21,6 @@ module _ {I : Type 0} (number : I → ℕ) (same_number : (i j : I) → number i
       let at : moved_index (number from) (number to) (number k) ≡ number k = if_other (number k) (number from) (number to) (number k) (λ e. differs (same_number k from e)) in
       sym (ap (λ (o : Option I). option_map (moved_index (number from) (number to)) (option_map number o)) is ∙ ap (λ (n : ℕ). Some n) at)
 
--- No link is named.
 module _ {I : Type 0} (number : I → ℕ) (named : Option I) (is : named ≡ None) where
   pub none_moved : (from to : I) → None ≡ option_map (moved_index (number from) (number to)) (option_map number named)
   none_moved from to = sym (ap (λ (o : Option I). option_map (moved_index (number from) (number to)) (option_map number o)) is)

@@ -16,7 +16,6 @@ states_none {I} index link_map before named target is = by before ∙ (λ j. wit
     by false = refl
 
 module _ {I Gen K T : Type 0} (index : I → ℕ) (number : K → Option ℕ) (old new : DetachedView Gen (RawLink K T)) (before : Bool) (named : Option I) (target : Option ℕ) (i : I) (is : named ≡ Some i) where
-  -- There is no link at the index.
   module _ (same : new ≡ old) where
     pub kept_values : detached_values new ≡ detached_values old
     kept_values = λ j. detached_values (same j)
@@ -28,7 +27,6 @@ module _ {I Gen K T : Type 0} (index : I → ℕ) (number : K → Option ℕ) (o
         by true = with_prev_at-unknown number old.slots (index i) none target
         by false = with_next_at-unknown number old.slots (index i) none target
 
-  -- A link was written.
   module _ (l w : RawLink K T) (stored : Some l ≡ option_map (λ (e : Gen × RawLink K T). e.1) (slot_at old.slots (index i))) (wrote : new ≡ detached_with_value old (index i) w) where
     module _ (on : before ≡ true) (rest : w ≡ record l { prev = w.prev }) where
       pub prev_values : detached_values new ≡ detached_values old

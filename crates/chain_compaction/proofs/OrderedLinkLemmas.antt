@@ -27,7 +27,6 @@ use Rattle.chain_compaction.proofs.ChainDestinationLemmas.{reports_one, reports_
 use Rattle.chain_compaction.proofs.DetachedLinkLemmas.{work-few}
 use Rattle.chain_compaction.proofs.SlotCountLemmas.{slot_at-same, slot_at-other, stored-within}
 
--- The links up to index k have the generation, and nothing else changed.
 pub record AreRenewed {Gen K T : Type 0} (generation : Gen) (old now : DetachedView Gen (RawLink K T)) (k : ℕ) : Type 0 where
   pub there : (j : ℕ) → j ≤ k → slot_at now.slots j ≡ option_map (λ e. (generation, e.1)) (slot_at old.slots j)
   pub stay : (j : ℕ) → k < j → slot_at now.slots j ≡ slot_at old.slots j

@@ -59,8 +59,6 @@ items_of : (is_cyclic : Bool) (xs : List ℕ) → items (chain_of is_cyclic xs) 
 items_of false xs = refl
 items_of true xs = refl
 
--- The links up to index k form whole chains up to index `start`, each of them a run, and the links
--- after it each name the next index.
 pub record AreRuns (link_map : LinkMap) (start : ℕ) (is_cyclic : Bool) (k : ℕ) : Type 0 where
   pub chains : List Chain
   pub each : (c : Chain) → HasChain chains c → IsChain link_map c
@@ -95,7 +93,6 @@ module _ (link_map : LinkMap) where
         items = sym all;
       }
 
-  -- One more link.
   module _ (agree : IsWellLinked link_map) (start k : ℕ) (was is_cyclic : Bool) (runs : AreRuns link_map start was k) (valid : HasLink link_map (k + 1)) (prev next : Option ℕ)
       (is_prev : prev ≡ prev_of link_map (k + 1)) (is_next : next ≡ next_of link_map (k + 1)) (first : k ≡ start → is_cyclic ≡ is_some prev) (later : start < k → is_cyclic ≡ was) where
     valid_now : (j : ℕ) → 1 ≤ j → j ≤ k + 1 → HasLink link_map j
@@ -173,7 +170,6 @@ module _ (link_map : LinkMap) where
     runs_continue after (inl e) = subst (λ (n : ℕ). AreRuns link_map n is_cyclic (k + 1)) (sym e.0) (runs_go_on e.1)
     runs_continue after (inr e) = subst (λ (n : ℕ). AreRuns link_map n is_cyclic (k + 1)) (sym e.0) (runs_close e.1)
 
--- One more link, that of a slot that was read.
 module _ {Gen K T : Type 0} (number : K → Option ℕ) (old now : DetachedView Gen (RawLink K T)) (agree : IsWellLinked (link_map_in number old.slots)) (start k : ℕ) (was is_cyclic : Bool)
     (runs : AreRuns (link_map_in number old.slots) start was k) (same : now ≡ old) (i : ℕ) (at : i ≡ k + 1) (r : Option Gen) (generation : Gen) (some : r ≡ Some generation)
     (reported : r ≡ option_map (λ (e : Gen × RawLink K T). e.0) (slot_at now.slots i)) where

@@ -1,5 +1,4 @@
--- One step of settling: the entry at i is exchanged with slot d and loses its destination d, and
--- one entry less waits.
+-- One step of settling: the entry at i is exchanged with slot d and loses its destination d, and one entry less waits.
 use Rattle.std.proofs.Common.{◌≡◌, ◌≢◌, ℕ, ◌+◌, ◌≤◌, List, length, Bool, true, false, Option, None, Some, refl, sym, ap, ◌∙◌, subst, arith}
 use Rattle.std.specs.Prelude.{is_some}
 use Rattle.std.specs.Bool.{OnTrue, OnFalse}
@@ -163,7 +162,6 @@ settling_joins goal Settled block old now next before after = record {
   stays = λ j d e out w. before.stays j d e out (after.stays j d e out w);
 }
 
--- What is known of a block is known after reads.
 module _ {Gen K : Type 0} (goal : Gen × K → Option ℕ) (Settled : Gen × K → Gen × K → Type 0) (start count : ℕ) (positions : List ℕ) (left : ℕ) (old now was_read : DetachedView Gen K) where
   pub record IsBlockRead : Type 0 where
     pub lists : ListsWaiting goal start count positions left (slot_at was_read.slots)
@@ -186,7 +184,6 @@ none_waits goal slots i is d e w =
     let some : goal e ≡ Some d = w.to in
     cc
 
--- One step, over the slots before it, after the exchange, and without the destination.
 module _ {Gen K T : Type 0} (number : K → Option ℕ) (g : Gen) (i d : ℕ) (before exchanged after : DetachedView Gen (RawLink K T))
     (is : Some d ≡ destination_at number before.slots i) (all : WaitsWithin (destination_of number) before.slots) where
   abbrev Entries : Type 0

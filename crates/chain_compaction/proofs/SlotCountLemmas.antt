@@ -30,7 +30,6 @@ module _ {X : Type 0} where
 abbrev pub one_if : Bool → ℕ
 one_if b = cond b 1 0
 
--- 1 for a slot whose entry waits.
 abbrev pub mark : {E : Type 0} → (E → Option ℕ) → Option E → ℕ
 mark goal slot = one_if (waits goal slot)
 

@@ -20,10 +20,8 @@ module _ {E : Type 0} (goal : E → Option ℕ) (Settles : E → E → Type 0) (
       waits_as_ever : (j : ℕ) (e : E) (d : ℕ) → old j ≡ Some e → goal e ≡ Some d → StillWaits goal old old j e
       waits_as_ever j e d s to = record { from = j; to = d; waited = record { stored = s; to = to }; waits = record { stored = s; to = to } }
 
-  -- The entry e at i is exchanged with the slot at d, and settled there.
   module _ (now next : ℕ → Option E) (i d : ℕ) (e : E)
       (at_d : IsSettledAt Settles next d e) (at_i : (i ≢ d) → next i ≡ now d) (elsewhere : (j : ℕ) → (j ≢ i) → (j ≢ d) → next j ≡ now j) where
-    -- An entry that waits afterwards waited there, or moved from d to i.
     data Before (j : ℕ) (f : E) (k : ℕ) : Type 0 where
       stayed : (j ≢ i) → (j ≢ d) → HasDestination goal now j f k → Before j f k
       arrived : j ≡ i → (i ≢ d) → HasDestination goal now d f k → Before j f k

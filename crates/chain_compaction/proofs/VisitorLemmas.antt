@@ -29,7 +29,6 @@ module _ {P A : Type 0} where
       let more : vec_capacity (list old) ≤ vec_capacity (list folds.0) = one.2 in
       all_listed list moves folds.0 new (omega arith) folds.2 ∙ (ap (λ (xs : List (P × P)). xs ++ moves) one.0 ∙ append_assoc (list old).items (m ∷ []) moves)
 
--- There are as many moves as links.
 module _ {P Gen T : Type 0} (key : P → ℕ × Gen) (first : Gen) (following : Gen → Gen) where
   pub moves_count : (reset : Bool) (old new : ArenaView Gen T) (links new_links : LinkMap) (generation : Gen) (moves : List (P × P)) → IsCanonicalLayout first following reset old links new new_links
       → AreAllMoves key old links generation moves → length moves ≡ length old.entries

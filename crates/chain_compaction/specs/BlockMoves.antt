@@ -1,4 +1,4 @@
--- Moves of links to their destinations by a compactor: of one link, of a block, and of all.
+-- Moves of links to their destinations.
 use Rattle.std.specs.Prelude.{◌≡◌, ℕ, ◌+◌, ◌*◌, ◌-◌, ◌≤◌, Bool, List, length, Option, count_by, is_some, if◌then◌else◌}
 use Rattle.std.specs.Bool.{OnTrue, OnFalse}
 use Rattle.arena_traits.specs.Arena.{slot_at}
@@ -10,7 +10,7 @@ use Rattle.chain_compaction.specs.Permutations.{HasDestination, WaitsWithin, IsI
 use Rattle.chain_compaction.specs.WorkCounts.{ChangesOnlySlots}
 
 module _ {V S I W Gen K T : Type 0} (number : K → Option ℕ) where
-  -- The number of links that wait to be moved to their destinations.
+  -- The number of links that wait to be moved.
   abbrev pub unplaced_count : Compactor V (RawLink K T) S I Gen W → ℕ
   unplaced_count now = waiting_count (destination_of number) now.detached.slots
 
@@ -21,8 +21,8 @@ module _ {V S I W Gen K T : Type 0} (number : K → Option ℕ) where
     unplaced : unplaced ≡ unplaced_count now;
   }
 
-  -- `unplaced` links wait, each for an existing slot, and there is a block of `count` slots after
-  -- position `start`, at most 64. There are at most `greatest` slots.
+  -- `unplaced` links wait; `count` slots after `start`, at most 64, are a block, of at most
+  -- `greatest`.
   abbrev pub CanSettleBlock : ℕ → ℕ → ℕ → Compactor V (RawLink K T) S I Gen W → ℕ → Type 0
   CanSettleBlock greatest start count now unplaced = record {
     few : count ≤ 64;
@@ -32,7 +32,7 @@ module _ {V S I W Gen K T : Type 0} (number : K → Option ℕ) where
     unplaced : unplaced ≡ unplaced_count now;
   }
 
-  -- All links, of which there are `links`, may be moved. There are at most `greatest` slots.
+  -- All `links` links may be moved, in at most `greatest` slots.
   abbrev pub CanMoveLinks : ℕ → Compactor V (RawLink K T) S I Gen W → ℕ → Type 0
   CanMoveLinks greatest now links = record {
     fits : length now.detached.slots ≤ greatest;
@@ -41,8 +41,7 @@ module _ {V S I W Gen K T : Type 0} (number : K → Option ℕ) where
   }
 
   module _ (generation : Gen) where
-    -- The link at i was moved to its destination, if it had one. `unplaced` links wait now, and
-    -- none waits at i unless `may_wait`.
+    -- The link at i was moved, if it had a destination; none waits at i unless `may_wait`.
     abbrev pub SettlesAt : ℕ → (old new : Compactor V (RawLink K T) S I Gen W) → ℕ → Bool → Type 0
     SettlesAt i old new unplaced may_wait = record {
       settles : IsSettling (destination_of number) (Settles number generation) (λ (j : ℕ). j ≡ i) old.detached.slots new.detached.slots;
@@ -53,8 +52,8 @@ module _ {V S I W Gen K T : Type 0} (number : K → Option ℕ) where
       unplaced : unplaced ≡ unplaced_count new;
     }
 
-    -- The links at `before` slots of a block were moved, each once. `unplaced` links wait now. In
-    -- the block they wait only at the first `left` positions of the list.
+    -- The links at `before` slots moved once; in the block, links wait only at the first `left`
+    -- positions.
     abbrev pub SettlesListed : ℕ → ℕ → (old new : Compactor V (RawLink K T) S I Gen W) → ℕ → ℕ → List ℕ → ℕ → Type 0
     SettlesListed start count old new unplaced before positions left = record {
       settles : IsSettling (destination_of number) (Settles number generation) (IsInBlock start count) old.detached.slots new.detached.slots;
@@ -66,7 +65,7 @@ module _ {V S I W Gen K T : Type 0} (number : K → Option ℕ) where
       unplaced : unplaced ≡ unplaced_count new;
     }
 
-    -- Links were moved until none waits in the block. `unplaced` links wait now.
+    -- Links were moved until none waits in the block.
     abbrev pub SettlesBlock : ℕ → ℕ → (old new : Compactor V (RawLink K T) S I Gen W) → ℕ → Type 0
     SettlesBlock start count old new unplaced = record {
       settles : IsSettling (destination_of number) (Settles number generation) (IsInBlock start count) old.detached.slots new.detached.slots;
@@ -76,7 +75,7 @@ module _ {V S I W Gen K T : Type 0} (number : K → Option ℕ) where
       unplaced : unplaced ≡ unplaced_count new;
     }
 
-    -- All links were moved to their destinations, each with one placement.
+    -- All links were moved, each with one placement.
     abbrev pub MovesLinks : (old new : Compactor V (RawLink K T) S I Gen W) → Type 0
     MovesLinks old new = record {
       moved : HaveMoved (destination_of number) (Settles number generation) (slot_at old.detached.slots) (slot_at new.detached.slots);

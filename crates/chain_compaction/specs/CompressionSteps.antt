@@ -1,4 +1,4 @@
--- Moves of links to the first free index, one after another.
+-- Moves of links to the first free index.
 use Rattle.std.specs.Prelude.{◌≡◌, ◌≢◌, ℕ, ◌+◌, ◌*◌, ◌≤◌, Bool, Option, None, Some, OnSome, IfNone, length}
 use Rattle.std.specs.Option.{option_map}
 use Rattle.std.specs.Fn.{Mut}
@@ -18,20 +18,17 @@ use Rattle.chain_links.specs.Links.{StayAtRest}
 use Rattle.chain_compaction.specs.DetachedLinks.{detached_values, link_map_in, with_neighbor, indexes_in, IsWork}
 use Rattle.chain_compaction.specs.WorkCounts.{CountsWork}
 
--- If `old` is well linked, and the link may move, it has moved.
 abbrev pub IsLinkMove : LinkMap → LinkMap → ℕ → ℕ → Type 0
 IsLinkMove old new from to = IsWellLinked old → CanMove old from to → new ≡ with_link_moved old from to
 
 module _ {Gen K T : Type 0} where
-  -- The number of links.
   abbrev pub link_count : DetachedView Gen (RawLink K T) → ℕ
   link_count detached = length (entries_from 1 (detached_values detached).slots)
 
-  -- One placement per link, and at most one touch per slot and three per link.
+  -- One placement per link, at most one touch per slot and three per link.
   abbrev pub IsClosingWork : DetachedView Gen (RawLink K T) → Arena Gen (RawLink K T) → Arena Gen (RawLink K T) → Type 0
   IsClosingWork detached old new = IsWork old new (link_count detached) (length detached.slots + 3 * link_count detached)
 
--- Both slots exist, and the second is free if it is another one.
 abbrev pub CanBring : {P T S Inx Gen Word : Type 0} → (from to : ℕ) → Compactor P T S Inx Gen Word → Type 0
 CanBring from to now = record {
   from_within : from ≤ length now.detached.slots;
@@ -40,7 +37,7 @@ CanBring from to now = record {
 }
 
 module _ {P S I W Gen K T : Type 0} (number : K → Option ℕ) where
-  -- `prev` (if `before`) or else `next` of the link at an index, if any, names the link at `named`.
+  -- `prev` (if `before`) or else `next` of the link, if any, is set.
   abbrev pub SetsNeighbor : Bool → Option ℕ → ℕ → (old new : Compactor P (RawLink K T) S I Gen W) → Type 0
   SetsNeighbor before i named old new = record {
     values : detached_values new.detached ≡ detached_values old.detached;
@@ -50,8 +47,7 @@ module _ {P S I W Gen K T : Type 0} (number : K → Option ℕ) where
     counts : CountsWork old new;
   }
 
-  -- The link at `from` was moved to `to`, has the generation, and its neighbors name `to`. `was` is
-  -- its old generation. If there is no link, one slot was read.
+  -- The link at `from`, if any, was moved to `to`; `was` is its old generation.
   abbrev pub MovesLink : (from to : ℕ) → Gen → (old new : Compactor P (RawLink K T) S I Gen W) → Option Gen → Type 0
   MovesLink from to generation old new was = record {
     returned : was ≡ option_map (λ e. e.0) (slot_at old.detached.slots from);
@@ -63,8 +59,7 @@ module _ {P S I W Gen K T : Type 0} (number : K → Option ℕ) where
     counts : CountsWork old new;
   }
 
-  -- All links, of which there are `count`, were moved to the front in the order of their indexes,
-  -- and have the generation. The closure was called with each value.
+  -- All `count` links moved to the front, in order, and the closure saw each.
   abbrev pub CompactsLinks : {F : Type 0} → Mut F (P × (MutBor T × (P × Unit {0}))) (Unit {0} × (MutBor T × Unit {0})) → (P → ℕ × Gen) → Gen → F → (old new : Compactor P (RawLink K T) S I Gen W) → ℕ → Type 0
   CompactsLinks g key generation map old new count = record {
     closed : AreClosed generation (detached_values old.detached) (detached_values new.detached);

@@ -14,60 +14,56 @@ use Rattle.chain_compaction.specs.Layouts.{ReportsMoves}
 use Rattle.chain_compaction.specs.WorkCounts.{CountsWork}
 use Rattle.chain_links.specs.declared.links.RawLink.{RawLink}
 
--- i is in a linear chain, or a cyclic one is written from it.
 abbrev pub HasChainFrom : LinkMap → ℕ → Type 0
 HasChainFrom link_map i = (xs : List ℕ) × ((IsChain link_map (linear xs) × IsMember xs i) ⊎ IsChain link_map (cyclic (i ∷ xs)))
 
--- The link with its interlinks renumbered by `to`.
 abbrev pub renamed_link : {T : Type 0} → (ℕ → Option ℕ) → LinkView T → LinkView T
 renamed_link to link = record link { prev = option_and_then to link.prev; next = option_and_then to link.next }
 
--- The slots with the interlinks of each link renumbered by `to`.
 abbrev pub renamed_detached : {Gen T : Type 0} → (ℕ → Option ℕ) → DetachedView Gen (LinkView T) → DetachedView Gen (LinkView T)
 renamed_detached to detached = record detached { slots = map (option_map (on_value (renamed_link to))) detached.slots }
 
--- The destination of the link after the one just numbered, where `before` links precede the chain
--- and `count` are numbered. After the last link of a cyclic chain it is the destination of the
--- first.
+-- The destination after the `count`-th link of a chain behind `before` links, or of its first if
+-- the last is cyclic.
 abbrev pub number_after : Option ℕ → Option ℕ → ℕ → ℕ → Option ℕ
 number_after (Some on) next before count = Some (count + 1)
 number_after None (Some first) before count = Some (before + 1)
 number_after None None before count = None
 
 module _ {Gen K T : Type 0} (number : K → Option ℕ) where
-  -- The slots with each link as contracts see it.
+  -- The slots as contracts see them.
   abbrev pub detached_view : DetachedView Gen (RawLink K T) → DetachedView Gen (LinkView T)
   detached_view detached = record { slots = map (option_map (pair_view number)) detached.slots; stack_capacity = detached.stack_capacity; maximum = detached.maximum }
 
-  -- Whether a slot holds a link without a destination.
+  -- A link without a destination.
   abbrev pub is_fresh : Option (Gen × RawLink K T) → Bool
   is_fresh None = false
   is_fresh (Some e) = is_none (destination_of number e)
 
-  -- `count` links have destinations: their places in `done`.
+  -- `count` links have their places in `done` as destinations.
   pub record AreNumbered (slots : List (Option (Gen × RawLink K T))) (count : ℕ) (done : List ℕ) : Type 0 where
     pub destinations : (j : ℕ) → destination_at number slots j ≡ place_in done j
     pub counts : count ≡ length done
 
-  -- The destination of the link at i, if any, was set or removed, and nothing else changed.
+  -- Only the destination at i was set or removed.
   pub record IsDirectedAt (i : ℕ) (destination : Option ℕ) (old new : DetachedView Gen (RawLink K T)) : Type 0 where
     pub there : (l : RawLink K T) → Some l ≡ option_map (λ e. e.1) (slot_at old.slots i)
         → (w : RawLink K T) × (number w.destination ≡ destination) × (w ≡ record l { destination = w.destination }) × (new ≡ detached_with_value old i w)
     pub none : None ≡ option_map (λ e. e.1) (slot_at old.slots i) → new ≡ old
 
-  -- The interlinks and the destination of the link at i, if any, were set, and nothing else changed
+  -- Only the interlinks and destination at i were set.
   pub record IsRelinkedAt (i : ℕ) (prev next destination : Option ℕ) (old new : DetachedView Gen (RawLink K T)) : Type 0 where
     pub there : (l : RawLink K T) → Some l ≡ option_map (λ e. e.1) (slot_at old.slots i)
         → (w : RawLink K T) × (link_view number w ≡ record { prev = prev; next = next; value = l.t }) × (number w.destination ≡ destination) × (new ≡ detached_with_value old i w)
     pub none : None ≡ option_map (λ e. e.1) (slot_at old.slots i) → new ≡ old
 
-  -- If a last link names a first one, the link at i now names the last, and nothing else changed.
+  -- Only the link at i changed, to name the last, if that names a first.
   pub record IsRingClosed (i : ℕ) (first last : Option ℕ) (old new : DetachedView Gen (RawLink K T)) : Type 0 where
     pub ring : (k : ℕ) (l : RawLink K T) → first ≡ Some k → Some l ≡ option_map (λ e. e.1) (slot_at old.slots i)
         → (w : RawLink K T) × (number w.prev ≡ last) × (w ≡ record l { prev = w.prev }) × (new ≡ detached_with_value old i w)
     pub linear : first ≡ None → new ≡ old
 
-  -- Each link in the list is seen as what it `becomes`, and nothing else changed.
+  -- Only the listed links are seen as what they `become`.
   pub record AreRelinked (becomes : ℕ → LinkView T → LinkView T) (old now : DetachedView Gen (RawLink K T)) (xs : List ℕ) : Type 0 where
     pub there : (j : ℕ) → IsMember xs j → option_map (pair_view number) (slot_at now.slots j) ≡ option_map (on_value (becomes j)) (option_map (pair_view number) (slot_at old.slots j))
     pub stay : (j : ℕ) → (IsMember xs j → ⊥) → slot_at now.slots j ≡ slot_at old.slots j
@@ -75,7 +71,7 @@ module _ {Gen K T : Type 0} (number : K → Option ℕ) where
     pub capacity : now.stack_capacity ≡ old.stack_capacity
     pub maximum : now.maximum ≡ old.maximum
 
-  -- The chain may be numbered from `start`: its links have no destinations yet.
+  -- The chain from `start` has no destinations yet.
   pub record CanNumber (slots : List (Option (Gen × RawLink K T))) (start count : ℕ) (done : List ℕ) (c : Chain) : Type 0 where
     pub numbered : AreNumbered slots count done
     pub chain : IsChain (link_map_in number slots) c
@@ -83,8 +79,7 @@ module _ {Gen K T : Type 0} (number : K → Option ℕ) where
     pub apart : (j : ℕ) → IsMember (items c) j → IsMember done j → ⊥
     pub fits : length done + length (items c) ≤ length slots
 
-  -- The chain of i is numbered from `start`. Besides `reads` links of at most `limit`, at most as
-  -- many slots were read as it has links.
+  -- The chain of i starts at `start`; at most its links and `reads` others were read.
   abbrev pub FindsStart : {V S I W : Type 0} → (old new : Compactor V (RawLink K T) S I Gen W) → (i start limit reads : ℕ) → Type 0
   FindsStart old new i start limit reads = record {
     start : IsStart (link_map_in number old.detached.slots) i start;
@@ -95,7 +90,7 @@ module _ {Gen K T : Type 0} (number : K → Option ℕ) where
     counts : CountsWork old new;
   }
 
-  -- A chain may be numbered from `start`, after `before` links. There are at most `greatest` slots.
+  -- A chain may be numbered from `start`, after `before` links, in at most `greatest` slots.
   abbrev pub CanNumberFrom : {V S I W : Type 0} → ℕ → Compactor V (RawLink K T) S I Gen W → (start before : ℕ) → Type 0
   CanNumberFrom greatest now start before = record {
     fits : length now.detached.slots ≤ greatest;
@@ -103,16 +98,14 @@ module _ {Gen K T : Type 0} (number : K → Option ℕ) where
   }
 
   module _ {F P : Type 0} (g : F → P → P → F → Type 0) (key : P → ℕ × Gen) where
-    -- The chain is numbered after `done`, its interlinks name destinations, and the visitor has
-    -- seen its links.
+    -- The chain is numbered after `done`, and the visitor has seen it.
     pub record IsChainNumbered (generation : Gen) (f last : F) (old new : DetachedView Gen (RawLink K T)) (before after : Arena Gen (RawLink K T)) (count : ℕ) (done : List ℕ) (c : Chain) : Type 0 where
       pub numbered : AreNumbered new.slots count (done ++ items c)
       pub relinked : AreRelinked (λ _. renamed_link (place_from (length done + 1) (items c))) old new (items c)
       pub reports : ReportsMoves g key (ptr_at (slot_at old.slots)) generation (length done + 1) f (items c) last
       pub work : IsWork before after 0 (3 * length (items c))
 
-    -- A compactor has counted its work. If a chain could be numbered from `start`, after `before`
-    -- links, it is numbered now, and `count` links are.
+    -- The chain from `start`, if it could be, is numbered; `count` links are.
     abbrev pub NumbersChain : {V S I W : Type 0} → Gen → ℕ → F → F → (old new : Compactor V (RawLink K T) S I Gen W) → ℕ → ℕ → Type 0
     NumbersChain generation start f last old new before count = record {
       numbered : (done : List ℕ) (c : Chain) → CanNumber old.detached.slots start before done c
@@ -120,8 +113,7 @@ module _ {Gen K T : Type 0} (number : K → Option ℕ) where
       counts : CountsWork old new;
     }
 
-    -- All `count` links are numbered, in the least-index order of their chains. Their interlinks
-    -- name destinations, and the visitor has seen them in that order.
+    -- All `count` links are numbered in least-index order, and the visitor has seen them.
     pub record AreAllNumbered (generation : Gen) (f last : F) (old new : DetachedView Gen (RawLink K T)) (before after : Arena Gen (RawLink K T)) (count : ℕ) : Type 0 where
       pub indexes : List ℕ
       pub order : IsLeastIndexOrder (link_map_in number old.slots) indexes
@@ -131,7 +123,7 @@ module _ {Gen K T : Type 0} (number : K → Option ℕ) where
       pub reports : ReportsMoves g key (ptr_at (slot_at old.slots)) generation 1 f indexes last
       pub work : IsWork before after 0 (2 * length old.slots + 5 * length indexes)
 
-    -- A compactor has numbered all links, of which there are `count`, and has counted the work.
+    -- All `count` links are numbered, and the work is counted.
     abbrev pub NumbersAll : {V S I W : Type 0} → Gen → F → F → (old new : Compactor V (RawLink K T) S I Gen W) → ℕ → Type 0
     NumbersAll generation f last old new count = record {
       numbered : AreAllNumbered generation f last old.detached new.detached old.arena.now new.arena.now count;

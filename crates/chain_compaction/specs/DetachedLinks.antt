@@ -1,4 +1,4 @@
--- Links in the slots that a compactor holds: their values, their interlinks, and the work counted.
+-- Links in the slots that a compactor holds.
 use Rattle.std.specs.Prelude.{◌≡◌, ℕ, ◌≤◌, Bool, true, false, List, map, Option}
 use Rattle.std.specs.Option.{option_map}
 use Rattle.chain_laws.specs.Chains.{LinkMap, Interlinks}
@@ -12,32 +12,29 @@ use Rattle.chain_links.specs.ChainArena.{on_value, interlinks_in}
 use Rattle.chain_links.specs.Links.{link_view, held_in}
 
 module _ {Gen K T : Type 0} where
-  -- The slots with the value of each link alone.
+  -- The slots with the values alone.
   abbrev pub slot_values : List (Option (Gen × RawLink K T)) → List (Option (Gen × T))
   slot_values slots = map (option_map (on_value held_in)) slots
 
-  -- The same for the slots that a compactor holds.
   abbrev pub detached_values : DetachedView Gen (RawLink K T) → DetachedView Gen T
   detached_values detached = record { slots = slot_values detached.slots; stack_capacity = detached.stack_capacity; maximum = detached.maximum }
 
-  -- The interlinks of an entry.
   abbrev pub body_interlinks : (K → Option ℕ) → Gen × RawLink K T → Interlinks
   body_interlinks number e = interlinks_in (link_view number e.1)
 
-  -- The interlinks at each index of the slots.
+  -- The interlinks at each index.
   abbrev pub link_map_in : (K → Option ℕ) → List (Option (Gen × RawLink K T)) → LinkMap
   link_map_in number slots i = option_map (body_interlinks number) (slot_at slots i)
 
--- The link map after `prev` (`true`) or `next` (`false`) of the link at an index, if any, is set.
+-- The link map with `prev` (`true`) or `next` (`false`) set.
 abbrev pub with_neighbor : Bool → LinkMap → Option ℕ → Option ℕ → LinkMap
 with_neighbor true link_map i named = with_prev_at link_map i named
 with_neighbor false link_map i named = with_next_at link_map i named
 
--- The indexes of the entries in slots, in ascending order.
 abbrev pub indexes_in : {Gen T : Type 0} → List (Option (Gen × T)) → List ℕ
 indexes_in slots = map index_of (entries_from 1 slots)
 
--- Exactly `placements` placements and at most `most` touches were counted.
+-- Exactly `placements` placements and at most `most` touches.
 pub record IsWork {Gen T : Type 0} (old new : Arena Gen T) (placements most : ℕ) : Type 0 where
   pub touches : ℕ
   pub few : touches ≤ most

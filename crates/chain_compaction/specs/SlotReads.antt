@@ -10,31 +10,28 @@ use Rattle.chain_links.specs.Links.{destination_at}
 use Rattle.chain_compaction.specs.DetachedLinks.{link_map_in, IsWork}
 use Rattle.chain_compaction.specs.WorkCounts.{CountsWork}
 
--- Each of the first `count` positions is below the limit.
 abbrev pub AreBelow : ℕ → List ℕ → ℕ → Type 0
 AreBelow limit positions count = (p : ℕ) → p < count → slice_index positions p < limit
 
 module _ {P T S Inx Gen Word : Type 0} where
-  -- A compactor has counted one touch.
+  -- One touch was counted.
   pub record HasTouchedSlot (old new : Compactor P T S Inx Gen Word) : Type 0 where
     pub arena : new.arena.now ≡ with_touch old.arena.now
     pub counts : CountsWork old new
 
-  -- A compactor has read a slot: arena and slots are the same, and one touch was counted.
+  -- One touch was counted, and nothing else changed.
   pub record HasReadSlot (old new : Compactor P T S Inx Gen Word) : Type 0 where
     pub detached : new.detached ≡ old.detached
     pub arena : new.arena.now ≡ with_touch old.arena.now
     pub counts : CountsWork old new
 
-  -- A compactor has read slots: arena and slots are the same, and at most so many touches were
-  -- counted.
+  -- At most `most` touches were counted, and nothing else changed.
   pub record HasReadSlots (old new : Compactor P T S Inx Gen Word) (most : ℕ) : Type 0 where
     pub detached : new.detached ≡ old.detached
     pub work : IsWork old.arena.now new.arena.now 0 most
     pub counts : CountsWork old new
 
--- A compactor has read the link at i: its generation, interlinks and destination, or none if there
--- is no link. `number` and `packed_number` give the number of an index.
+-- The parts of the link at i were read, or none.
 abbrev pub HasReadLink : {P S Inx Gen Word K T : Type 0} → (Inx → ℕ) → (K → Option ℕ) → (old new : Compactor P (RawLink K T) S Inx Gen Word) → Inx → Option Gen → (prev next destination : Option Inx) → Type 0
 HasReadLink number packed_number old new i was before after target = record {
   was_read : HasReadSlot old new;
@@ -44,8 +41,7 @@ HasReadLink number packed_number old new i was before after target = record {
   destination : option_map number target ≡ destination_at packed_number old.detached.slots (number i);
 }
 
--- A compactor has read the link at `on`, if there is one and at most `left` reads: `next` is the
--- index after it, or none.
+-- The link at `on` was read, if any and at most `left` reads; `next` is the index after it.
 abbrev pub HasPrefetchedNext : {P S Inx Gen Word K T : Type 0} → (K → Option ℕ) → (old new : Compactor P (RawLink K T) S Inx Gen Word) → (on next : Option ℕ) → (left count : ℕ) → Type 0
 HasPrefetchedNext packed_number old new on next left count = record {
   few : count ≤ left;

@@ -1,15 +1,14 @@
--- What a compactor has counted, besides the totals of its arena, and what it keeps.
+-- What a compactor counts and keeps.
 use Rattle.std.specs.Prelude.{◌≡◌, ℕ, ◌-◌, ◌^◌, min}
 use Rattle.arena_traits.specs.Arena.{Arena}
 use Rattle.arena_base.specs.GatheredSlots.{with_totals}
 use Rattle.arena_base.specs.declared.compactor.Compactor.{Compactor}
 
--- A count of work, which saturates.
 abbrev pub saturating_count : ℕ → ℕ
 saturating_count n = min n (2 ^ 128 - 1)
 
 module _ {Gen T : Type 0} where
-  -- A compactor has counted all work since its arena was in the state `first`.
+  -- All work since `first` is counted.
   pub record HasCounted (first now : Arena Gen T) (placed touched : ℕ) : Type 0 where
     pub placements : ℕ
     pub touches : ℕ
@@ -17,13 +16,12 @@ module _ {Gen T : Type 0} where
     pub placements_counted : placed ≡ saturating_count placements
     pub touches_counted : touched ≡ saturating_count touches
 
--- A compactor of the same arena, which still has counted all work if it had before.
+-- The same arena; all work stays counted.
 pub record CountsWork {V T S Inx Gen Word : Type 0} (old new : Compactor V T S Inx Gen Word) : Type 0 where
   pub same_reference : new.arena.ghost_name ≡ old.arena.ghost_name
   pub on : (first : Arena Gen T) → HasCounted first old.arena.now old.placed old.touched → HasCounted first new.arena.now new.placed new.touched
 
--- Nothing changed but slots and counts: a compactor of the same arena has the same capacity and
--- maximum, and still has counted all work if it had before.
+-- Only slots and counts changed; all work stays counted.
 pub record ChangesOnlySlots {V T S Inx Gen Word : Type 0} (old new : Compactor V T S Inx Gen Word) : Type 0 where
   pub capacity : new.detached.stack_capacity ≡ old.detached.stack_capacity
   pub maximum : new.detached.maximum ≡ old.detached.maximum

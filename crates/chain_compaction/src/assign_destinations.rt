@@ -1,5 +1,3 @@
-// Numbering of chains by their least index, linear ones from their start, cyclic ones from their
-// least index.
 ghost use Rattle.std.specs.Prelude.{◌≡◌, ◌<◌, ◌↔◌, ◌⊎◌, IsSome, IfSome, Some, IsTrue};
 ghost use Rattle.std.specs.Option.{option_map};
 ghost use Rattle.chain_laws.specs.ChainStart.{IsStart};
@@ -16,7 +14,6 @@ use arena_ptr::{InxKey, PtrKey, SlotStack};
 use chain_links::walk_direction::step_on;
 use chain_links::{LinkNoGen, link_access};
 
-// Returns whether `on` is `k`.
 fn is_at<I: InxKey>(on: Option<I>, k: I) -> bool
     ensures { IsTrue result ↔ (option_map I.number on ≡ Some (I.number k)) }
 {
@@ -26,7 +23,6 @@ fn is_at<I: InxKey>(on: Option<I>, k: I) -> bool
     }
 }
 
-// Returns whether `k` is `start`, `on` or `next`.
 fn is_one_of<I: InxKey>(k: I, start: I, on: Option<I>, next: Option<I>) -> bool
     ensures { IsTrue result ↔ ((I.number k ≡ I.number start)
         ⊎ ((option_map I.number on ≡ Some (I.number k))
@@ -35,12 +31,8 @@ fn is_one_of<I: InxKey>(k: I, start: I, on: Option<I>, next: Option<I>) -> bool
     k.is_same(start) || is_at(on, k) || is_at(next, k)
 }
 
-// Returns where the chain of `i` is numbered from: its start if linear, `i` if cyclic. The walk
-// back reads at most as many slots as the chain has links.
-//
-// With each step back, one link of the walk from `i` on is read, of at most `limit` in all: the two
-// walks wait for memory at the same time. If they meet, the chain is cyclic, and about half of it
-// is not read. Returns the number of these reads, too.
+// Returns the start of the chain of `i` if linear, else `i`, and the reads onward, at most `limit`.
+// Walks both ways overlap their waits; they meet only in a cyclic chain.
 fn start_at<P: PtrKey, T: Drop, S: SlotStack<Item = LinkSlot<P, T>>>(
     compactor: &mut Compactor<'_, P, LinkNoGen<P, T>, S>,
     i: P::Inx,
@@ -70,7 +62,6 @@ fn start_at<P: PtrKey, T: Drop, S: SlotStack<Item = LinkSlot<P, T>>>(
     proved_unreachable!()
 }
 
-// Returns where the chain of `i` is numbered from, as `start_at` does, without a walk if it is known.
 #[inline(always)]
 fn start_from<P: PtrKey, T: Drop, S: SlotStack<Item = LinkSlot<P, T>>>(
     compactor: &mut Compactor<'_, P, LinkNoGen<P, T>, S>,
@@ -92,9 +83,6 @@ fn start_from<P: PtrKey, T: Drop, S: SlotStack<Item = LinkSlot<P, T>>>(
     }
 }
 
-// Returns the destination of the link after the one just numbered, where `before` links precede the
-// chain and `count` are numbered. After the last link of a cyclic chain it is the destination of
-// the first.
 fn next_destination<P: PtrKey>(
     on: Option<P::Inx>,
     named: Option<P::Inx>,
@@ -113,8 +101,6 @@ fn next_destination<P: PtrKey>(
     }
 }
 
-// Sets `prev` of the link at `start` to `last` if the last link names a next one, as `named`: the
-// chain is cyclic then.
 fn close_ring<P: PtrKey, T: Drop, S: SlotStack<Item = LinkSlot<P, T>>>(
     compactor: &mut Compactor<'_, P, LinkNoGen<P, T>, S>,
     start: P::Inx,
@@ -137,9 +123,6 @@ fn close_ring<P: PtrKey, T: Drop, S: SlotStack<Item = LinkSlot<P, T>>>(
     }
 }
 
-// Numbers the chain from `start`, after `before` links, renumbers its interlinks, and shows each
-// link's old and new pointer to the visitor. Returns the visitor and the number of links numbered
-// so far.
 fn number_chain<P: PtrKey, T: Drop, S: SlotStack<Item = LinkSlot<P, T>>, V: Visitor<P>>(
     compactor: &mut Compactor<'_, P, LinkNoGen<P, T>, S>,
     start: P::Inx,
@@ -176,12 +159,7 @@ fn number_chain<P: PtrKey, T: Drop, S: SlotStack<Item = LinkSlot<P, T>>, V: Visi
     (visitor, count)
 }
 
-/// Assigns each link its destination, and returns the visitor and the number of links. There are
-/// `links` of them; slots behind the last chain to be numbered are not read.
-///
-/// Chains are numbered by their least index, linear ones from their start, cyclic ones from their
-/// least index. Interlinks then name destinations. The visitor sees each link's old and new
-/// pointer, in ascending order of destination.
+/// Gives each of the `links` links its destination; returns the visitor and their number.
 pub fn number_all<P: PtrKey, T: Drop, S: SlotStack<Item = LinkSlot<P, T>>, V: Visitor<P>>(
     compactor: &mut Compactor<'_, P, LinkNoGen<P, T>, S>,
     links: usize,

@@ -1,5 +1,3 @@
-// Canonical compression in place: each chain at consecutive indexes, one chain after another from
-// index 1 on.
 ghost use Rattle.std.specs.Prelude.{◌≡◌, ◌+◌};
 ghost use Rattle.chain_links.specs.Links.{links_view, AreAtRest, IsChainArena};
 ghost use Rattle.chain_compaction.specs.Layouts.{AreArranged};
@@ -15,8 +13,6 @@ use arena_base::{Arena, ArenaTrait, Compactor, Work};
 use arena_ptr::{PtrKey, SlotStack};
 use chain_links::LinkNoGen;
 
-// Places all links, of which there are `links`: each in its own slot if they are arranged
-// canonically already. Returns the visitor and the number of links.
 fn place_all<P: PtrKey, T: Drop, S: SlotStack<Item = LinkSlot<P, T>>, V: Visitor<P>>(
     compactor: &mut Compactor<'_, P, LinkNoGen<P, T>, S>,
     links: usize,
@@ -38,14 +34,8 @@ fn place_all<P: PtrKey, T: Drop, S: SlotStack<Item = LinkSlot<P, T>>, V: Visitor
     }
 }
 
-/// Arranges the links canonically, and returns the visitor and the work done.
-///
-/// Each link is moved to its destination, names the destinations of its neighbors, and gets the
-/// counter as its generation. The visitor sees each link's old and new pointer, and is then ready
-/// for others. Afterwards every slot is occupied. Links that are arranged canonically already stay
-/// in their slots, and each gets the counter as its generation.
-///
-/// No link has a destination before, and none has one afterwards.
+/// Arranges the `links` links canonically, with the counter as generation; returns the visitor and
+/// the work.
 pub fn arrange<P: PtrKey, T: Drop, S: SlotStack<Item = LinkSlot<P, T>>, V: Visitor<P>>(
     arena: &mut Arena<P, LinkNoGen<P, T>, S>,
     visitor: V,

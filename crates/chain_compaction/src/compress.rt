@@ -1,4 +1,3 @@
-// Compression of links to the indexes from 1 on, in the order of their indexes.
 ghost use Rattle.std.specs.Prelude.{◌≡◌};
 ghost use Rattle.std.specs.Option.{option_map};
 ghost use Rattle.chain_laws.specs.Chains.{IsWellLinked};
@@ -14,7 +13,6 @@ use arena_base::{Arena, Compactor, SlotAccess, inx_at, proved_unreachable};
 use arena_ptr::{InxKey, PtrKey, SlotStack};
 use chain_links::{LinkNoGen, link_access};
 
-/// Returns the index of the link at `named` after the link at `from` is moved to `to`.
 fn index_now<I: InxKey>(named: Option<I>, from: I, to: I) -> Option<I>
     ensures { option_map I.number result ≡ option_map (moved_index (I.number from) (I.number to))
         (option_map I.number named) }
@@ -25,7 +23,6 @@ fn index_now<I: InxKey>(named: Option<I>, from: I, to: I) -> Option<I>
     }
 }
 
-// Sets `prev` (if `before`) or else `next` of the link at `i`, if any, to `named`.
 fn set_neighbor<P: PtrKey, T: Drop, S: SlotStack<Item = LinkSlot<P, T>>>(
     compactor: &mut Compactor<'_, P, LinkNoGen<P, T>, S>,
     i: Option<P::Inx>,
@@ -48,8 +45,7 @@ fn set_neighbor<P: PtrKey, T: Drop, S: SlotStack<Item = LinkSlot<P, T>>>(
     }
 }
 
-// Moves the link at `from`, if any, to `to`, which is free or `from` itself. Sets its generation,
-// updates its neighbors, and returns its old generation.
+// Moves the link at `from`, if any, to `to`, and returns its old generation.
 fn move_link<P: PtrKey, T: Drop, S: SlotStack<Item = LinkSlot<P, T>>>(
     compactor: &mut Compactor<'_, P, LinkNoGen<P, T>, S>,
     from: P::Inx,
@@ -71,9 +67,6 @@ fn move_link<P: PtrKey, T: Drop, S: SlotStack<Item = LinkSlot<P, T>>>(
     Some(was)
 }
 
-// Moves each link, by ascending index, to the first free index, sets its generation, and updates
-// its neighbors. Calls the closure with the old pointer, the value by mutable reference, and the
-// new pointer. Returns the number of links, which then occupy the first slots.
 fn compact_links<
     P: PtrKey,
     T: Drop,
@@ -106,11 +99,8 @@ fn compact_links<
     count
 }
 
-/// Moves the links to the front, gives each the counter as its generation, and updates its
-/// neighbors.
-///
-/// The closure is called with each link's old pointer, value and new pointer. Afterwards every slot
-/// is occupied.
+/// Moves the links to the front by index, sets their generation, and passes each old pointer, value
+/// and new pointer to the closure.
 pub fn gather<
     P: PtrKey,
     T: Drop,

@@ -1,4 +1,3 @@
-// Links that are arranged canonically already: the check for it, and their renewal in place.
 ghost use Rattle.std.specs.Prelude.{◌≡◌, ◌≤◌, ◌<◌, ◌+◌, length, is_some, IfSome, if◌then◌else◌};
 ghost use Rattle.std.specs.Bool.{OnTrue};
 ghost use Rattle.std.specs.Option.{option_map};
@@ -12,8 +11,6 @@ use arena_base::{Compactor, SlotAccess, inx_at, position_of, proved_unreachable}
 use arena_ptr::{InxKey, PtrKey, SlotStack};
 use chain_links::LinkNoGen;
 
-// Returns whether the run from position `start` on is cyclic, by `prev` of its first link. After
-// the first link that is `is_cyclic`.
 fn is_cyclic_at<I: Copy>(start: usize, is_cyclic: bool, k: usize, prev: Option<I>) -> bool
     ensures first { k ≡ start → result ≡ is_some prev }
     ensures later { start < k → result ≡ is_cyclic }
@@ -25,8 +22,7 @@ fn is_cyclic_at<I: Copy>(start: usize, is_cyclic: bool, k: usize, prev: Option<I
     }
 }
 
-// Returns the start of the run that position `k + 1` is in: `start` if the link at position `k`
-// names the one there, and `k + 1` if it ends the run. Returns `None` if it does neither.
+// Returns the start of the run at `k + 1`; `None` if `k` is out of order.
 fn start_after<P: PtrKey>(
     start: usize,
     is_cyclic: bool,
@@ -45,9 +41,7 @@ fn start_after<P: PtrKey>(
     }
 }
 
-/// Returns whether all slots hold links that are arranged canonically already.
-///
-/// Reads no slot if `links`, the number of links, is less than the number of slots.
+/// Returns whether all slots hold links in canonical order.
 pub(crate) fn is_in_order<P: PtrKey, T: Drop, S: SlotStack<Item = LinkSlot<P, T>>>(
     compactor: &mut Compactor<'_, P, LinkNoGen<P, T>, S>,
     links: usize,
@@ -78,10 +72,7 @@ pub(crate) fn is_in_order<P: PtrKey, T: Drop, S: SlotStack<Item = LinkSlot<P, T>
     start == slots
 }
 
-/// Sets the generation of each link, in its own slot. Returns the visitor and the number of links.
-///
-/// The links are arranged canonically already. Each is placed once, and the visitor sees its old
-/// and new pointer, in ascending order of index.
+/// Sets each link's generation in place; returns the visitor and their number.
 pub(crate) fn regenerate_all<
     P: PtrKey,
     T: Drop,

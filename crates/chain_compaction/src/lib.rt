@@ -1,5 +1,4 @@
-//! Compaction of a plain arena of links: closing holes, and arranging each chain at consecutive
-//! indexes.
+//! Compaction of a plain arena of links.
 #![tactic(auto)]
 
 mod assign_destinations;

@@ -1,4 +1,3 @@
-// Moves of links to their destinations along the cycles of the permutation, each link placed once.
 ghost use Rattle.arena_traits.specs.Arena.{slot_at};
 ghost use Rattle.chain_compaction.specs.BlockMoves.{CanSettle, CanSettleBlock, CanMoveLinks, SettlesAt, SettlesListed, SettlesBlock, MovesLinks};
 ghost use Rattle.chain_compaction.specs.Permutations.{ListsWaiting};
@@ -10,12 +9,7 @@ use arena_base::{Compactor, assume_proved, inx_at};
 use arena_ptr::{InxKey, PtrKey, SlotStack};
 use chain_links::LinkNoGen;
 
-// Moves the link at `i` to its destination, if it has one, by an exchange of slots, and returns
-// whether another may now wait at `i`: none does if the destination is `i` itself.
-//
-// `unplaced` is the number of links that wait.
-//
-// The destination is removed after the exchange: a write just before it would delay its reads.
+// The destination is removed last, since a write first would delay the reads.
 #[inline(always)]
 fn move_to_destination<P: PtrKey, T: Drop, S: SlotStack<Item = LinkSlot<P, T>>>(
     compactor: &mut Compactor<'_, P, LinkNoGen<P, T>, S>,
@@ -38,8 +32,7 @@ fn move_to_destination<P: PtrKey, T: Drop, S: SlotStack<Item = LinkSlot<P, T>>>(
     }
 }
 
-// Moves the link at each slot of a block once, if it has a destination. Returns a list of positions
-// and its length: those of the slots at which a link may still wait.
+// Returns the positions where a link may still wait, and their number.
 #[inline(always)]
 fn move_block_once<P: PtrKey, T: Drop, S: SlotStack<Item = LinkSlot<P, T>>>(
     compactor: &mut Compactor<'_, P, LinkNoGen<P, T>, S>,
@@ -66,10 +59,7 @@ fn move_block_once<P: PtrKey, T: Drop, S: SlotStack<Item = LinkSlot<P, T>>>(
     (positions, left)
 }
 
-// Moves the link at each of the first `left` positions once, and removes the positions where no
-// link waits any more. Returns how many are left.
-//
-// Each position stands for a slot of the block of `count` slots after position `start`.
+// Keeps the positions where a link still waits; returns their number.
 #[inline(always)]
 fn move_waiting<P: PtrKey, T: Drop, S: SlotStack<Item = LinkSlot<P, T>>>(
     compactor: &mut Compactor<'_, P, LinkNoGen<P, T>, S>,
@@ -106,12 +96,8 @@ fn move_waiting<P: PtrKey, T: Drop, S: SlotStack<Item = LinkSlot<P, T>>>(
     rest
 }
 
-// Moves the links of a block of slots, one placement at each slot in turn, until none with a
-// destination is in the block.
-//
-// Successive placements follow different cycles, so their memory accesses overlap. A link that is
-// at its destination is placed there in the first turn, and its slot is not read again. From
-// 2,097,152 slots on, which exceed the cache, the destinations of a round are read before it.
+// Successive placements follow different cycles, so their memory accesses overlap. Slots beyond the
+// cache are read first.
 #[inline(always)]
 fn move_block<P: PtrKey, T: Drop, S: SlotStack<Item = LinkSlot<P, T>>>(
     compactor: &mut Compactor<'_, P, LinkNoGen<P, T>, S>,
@@ -141,10 +127,7 @@ fn move_block<P: PtrKey, T: Drop, S: SlotStack<Item = LinkSlot<P, T>>>(
     }
 }
 
-/// Moves each link to its destination and sets its generation.
-///
-/// Each link is placed once. There are `links` of them; slots behind the last to be placed are not
-/// read. Inlined, so what is not used of the counts is not counted.
+/// Moves each of the `links` links to its destination once, with its generation.
 #[inline(always)]
 pub fn move_all<P: PtrKey, T: Drop, S: SlotStack<Item = LinkSlot<P, T>>>(
     compactor: &mut Compactor<'_, P, LinkNoGen<P, T>, S>,

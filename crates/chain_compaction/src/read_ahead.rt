@@ -1,8 +1,4 @@
-// Reads of links before they are numbered or moved, which change nothing.
-//
-// The walk along a chain waits for each link, since the link names the next one. Here several
-// chains are walked in turn, so that these waits overlap, and their links are then in the cache.
-// Before a round of moves the slots of all destinations are read, for the same reason.
+// Several chains are walked in turn, so that their waits for memory overlap.
 ghost use Rattle.std.specs.Prelude.{◌≡◌, ◌≤◌, ◌<◌, ◌+◌, ◌*◌, ◌-◌, ◌⊎◌, ℕ, IfSome, MatchBool, slice_index, true};
 ghost use Rattle.std.specs.Bool.{OnTrue};
 ghost use Rattle.std.specs.Option.{option_map};
@@ -19,28 +15,22 @@ use arena_base::{Compactor, SlotAccess, inx_at, number_of, position_of};
 use arena_ptr::{InxKey, PtrKey, SlotStack};
 use chain_links::LinkNoGen;
 
-/// How far links have been read ahead, the starts of their chains, and how many more reads are
-/// allowed.
 #[derive(Drop)]
 pub(crate) struct ReadAhead {
-    /// The position of the first slot that was not read ahead.
+    /// The first slot that was not read ahead.
     position: usize,
-    /// The number of reads that are allowed.
+    /// The reads still allowed.
     pub(crate) credit: usize,
-    /// The greatest number of reads in one direction, beside 16 chains.
+    /// The most reads in one direction, beside 16 chains.
     limit: usize,
-    /// The position of the first slot that was read ahead last.
+    /// The slot of `starts[0]`.
     first: usize,
-    /// For each of 64 slots from `first` on, the number of the index where the chain of its link
-    /// starts, or 0 if that is not known.
+    /// Each link's start, or 0 if unknown.
     starts: [usize; 64],
 }
 
 impl ReadAhead {
-    /// Allows as many reads as there are slots.
-    ///
-    /// Fewer than 8,192 slots are never read ahead, since reading ahead costs more than it saves
-    /// there.
+    /// Allows as many reads as slots; none below 8,192 slots, where they do not pay.
     pub(crate) fn new(slots: usize) -> ReadAhead
         ensures credit { result.credit ≤ slots }
         ensures starts { (d : ℕ) → slice_index result.starts d ≡ 0 }
@@ -55,7 +45,7 @@ impl ReadAhead {
         }
     }
 
-    /// Returns where the chain of the link at position `k` starts, if that is known.
+    /// Returns the start of the chain at `k`, if known.
     #[inline(always)]
     pub(crate) fn start_of<I: InxKey>(&self, k: usize) -> Option<I>
         ensures first { IfSome result (λ start. self.now.first ≤ k) }
@@ -72,7 +62,6 @@ impl ReadAhead {
     }
 }
 
-// Returns whether a neighbor is more than 64 slots away from the link at position `k`.
 fn is_far<P: PtrKey>(k: usize, neighbor: Option<P::Inx>) -> bool {
     match neighbor {
         Some(i) => number_of::<P>(i).abs_diff(k) > 64,
@@ -80,8 +69,6 @@ fn is_far<P: PtrKey>(k: usize, neighbor: Option<P::Inx>) -> bool {
     }
 }
 
-// Takes a step of a walk by `next` that began at position `start` and is at position `k`. Returns
-// where it is then, or `None` if it ends.
 #[inline(always)]
 fn step_at<P: PtrKey, T: Drop, S: SlotStack<Item = LinkSlot<P, T>>>(
     compactor: &mut Compactor<'_, P, LinkNoGen<P, T>, S>,
@@ -101,8 +88,7 @@ fn step_at<P: PtrKey, T: Drop, S: SlotStack<Item = LinkSlot<P, T>>>(
     }
 }
 
-// Takes a step of a walk by `prev` that began at position `start` and is at position `k`. Returns
-// where it is then, and `true`; or if it ends, where the chain starts, and `false`.
+// Returns the next position and `true`, or the chain's start and `false`.
 #[inline(always)]
 fn step_back_at<P: PtrKey, T: Drop, S: SlotStack<Item = LinkSlot<P, T>>>(
     compactor: &mut Compactor<'_, P, LinkNoGen<P, T>, S>,
@@ -131,7 +117,6 @@ fn step_back_at<P: PtrKey, T: Drop, S: SlotStack<Item = LinkSlot<P, T>>>(
     }
 }
 
-// Returns whether two links are at most two slots apart, which are then in the cache together.
 fn are_close<P: PtrKey>(a: Option<P::Inx>, b: Option<P::Inx>) -> bool {
     match (a, b) {
         (Some(a), Some(b)) => number_of::<P>(a).abs_diff(number_of::<P>(b)) <= 2,
@@ -139,9 +124,7 @@ fn are_close<P: PtrKey>(a: Option<P::Inx>, b: Option<P::Inx>) -> bool {
     }
 }
 
-// Returns whether to walk from the link at `i`, and the index after it. The link has to be without a
-// destination, and the link after it not close to `last`, the one after the last link listed: chains
-// that grew in turn lie beside each other.
+// Chains that grew in turn lie beside each other, so one beside `last` is not walked.
 fn prefetch_candidate<P: PtrKey, T: Drop, S: SlotStack<Item = LinkSlot<P, T>>>(
     compactor: &mut Compactor<'_, P, LinkNoGen<P, T>, S>,
     i: P::Inx,
@@ -158,8 +141,7 @@ fn prefetch_candidate<P: PtrKey, T: Drop, S: SlotStack<Item = LinkSlot<P, T>>>(
     )
 }
 
-// Lists the positions of up to 16 links without a destination to walk from, of the 64 slots from
-// position `k` on. Returns the list, its length, and the number of slots that were read.
+// Returns up to 16 of the 64 positions from `k` on, their number, and the reads.
 fn unnumbered_links<P: PtrKey, T: Drop, S: SlotStack<Item = LinkSlot<P, T>>>(
     compactor: &mut Compactor<'_, P, LinkNoGen<P, T>, S>,
     k: usize,
@@ -191,8 +173,6 @@ fn unnumbered_links<P: PtrKey, T: Drop, S: SlotStack<Item = LinkSlot<P, T>>>(
     (links, count, slots)
 }
 
-// Takes a step of each of the first `left` walks by `next`, which are at the positions `now` and
-// began at the positions `starts`. Removes the walks that end, and returns how many are left.
 #[inline(always)]
 fn step_each<P: PtrKey, T: Drop, S: SlotStack<Item = LinkSlot<P, T>>>(
     compactor: &mut Compactor<'_, P, LinkNoGen<P, T>, S>,
@@ -224,10 +204,6 @@ fn step_each<P: PtrKey, T: Drop, S: SlotStack<Item = LinkSlot<P, T>>>(
     rest
 }
 
-// Takes a step of each of the first `left` walks by `prev`, which are at the positions `now` and
-// began at the positions `links`. Removes the walks that end, and returns how many are left.
-//
-// Sets the start of a chain whose walk ends, for a link at `first` or one of the 63 positions after.
 #[inline(always)]
 fn step_back_each<P: PtrKey, T: Drop, S: SlotStack<Item = LinkSlot<P, T>>>(
     compactor: &mut Compactor<'_, P, LinkNoGen<P, T>, S>,
@@ -266,8 +242,7 @@ fn step_back_each<P: PtrKey, T: Drop, S: SlotStack<Item = LinkSlot<P, T>>>(
     rest
 }
 
-// Walks along the chains of `count` links in turn, by `next`, until each walk ends or one more round
-// could read more than `limit` links. Returns the number of links that were read.
+// Stops before a round could exceed `limit` reads.
 #[inline(always)]
 fn read_along<P: PtrKey, T: Drop, S: SlotStack<Item = LinkSlot<P, T>>>(
     compactor: &mut Compactor<'_, P, LinkNoGen<P, T>, S>,
@@ -291,8 +266,6 @@ fn read_along<P: PtrKey, T: Drop, S: SlotStack<Item = LinkSlot<P, T>>>(
     reads
 }
 
-// Walks along the chains of `count` links in turn, by `prev`, as `read_along` does by `next`. Returns
-// the starts of those whose walks ended, and the number of links that were read.
 #[inline(always)]
 fn find_starts<P: PtrKey, T: Drop, S: SlotStack<Item = LinkSlot<P, T>>>(
     compactor: &mut Compactor<'_, P, LinkNoGen<P, T>, S>,
@@ -322,8 +295,7 @@ fn find_starts<P: PtrKey, T: Drop, S: SlotStack<Item = LinkSlot<P, T>>>(
     (starts, reads)
 }
 
-/// Reads along the chains of up to 16 links from position `k` on, if a neighbor of the link there
-/// is far away, and it was not read ahead yet. Finds the starts of those that are short enough.
+/// Reads along chains near position `k`, if its neighbor is far.
 #[inline(always)]
 pub(crate) fn read_ahead<P: PtrKey, T: Drop, S: SlotStack<Item = LinkSlot<P, T>>>(
     compactor: &mut Compactor<'_, P, LinkNoGen<P, T>, S>,
@@ -355,8 +327,7 @@ pub(crate) fn read_ahead<P: PtrKey, T: Drop, S: SlotStack<Item = LinkSlot<P, T>>
     ahead.starts = starts;
 }
 
-/// Reads the link at `on`, if there is one and reads are `left`. Returns the index after it, and
-/// the number of links that were read.
+/// Returns the index after `on`, and the reads.
 #[inline(always)]
 pub(crate) fn prefetch_next<P: PtrKey, T: Drop, S: SlotStack<Item = LinkSlot<P, T>>>(
     compactor: &mut Compactor<'_, P, LinkNoGen<P, T>, S>,
@@ -372,8 +343,6 @@ pub(crate) fn prefetch_next<P: PtrKey, T: Drop, S: SlotStack<Item = LinkSlot<P, 
     }
 }
 
-// Reads the link at position `k`, and then the one at its destination. Returns whether the second
-// has a destination, too.
 #[inline(always)]
 fn has_further_destination<P: PtrKey, T: Drop, S: SlotStack<Item = LinkSlot<P, T>>>(
     compactor: &mut Compactor<'_, P, LinkNoGen<P, T>, S>,
@@ -388,8 +357,8 @@ fn has_further_destination<P: PtrKey, T: Drop, S: SlotStack<Item = LinkSlot<P, T
     }
 }
 
-/// Reads the slots at the destinations of the links at the first `left` positions, if `is_wanted`.
-/// Returns whether a link there has a destination, too. If not, no later round needs such reads.
+/// Reads the destinations of the links at `left` positions; returns whether a later round needs
+/// this.
 #[inline(always)]
 pub(crate) fn read_destinations<P: PtrKey, T: Drop, S: SlotStack<Item = LinkSlot<P, T>>>(
     compactor: &mut Compactor<'_, P, LinkNoGen<P, T>, S>,

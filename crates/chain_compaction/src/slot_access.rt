@@ -1,4 +1,3 @@
-// Reads and writes of one slot that leave no borrow of it.
 ghost use Rattle.std.specs.Prelude.{◌≡◌, ◌&&◌, IsSome, None, Some, is_none, is_some};
 ghost use Rattle.std.specs.Option.{option_map};
 ghost use Rattle.arena_traits.specs.Arena.{slot_at};
@@ -9,10 +8,9 @@ use arena_base::{ArenaSlot, Compactor, SlotAccess, proved_unreachable};
 use arena_ptr::{InxKey, PtrKey, SlotStack};
 use chain_links::{LinkNoGen, link_access};
 
-// A slot of an arena of links.
 pub(crate) type LinkSlot<P, T> = ArenaSlot<P, LinkNoGen<P, T>>;
 
-// The parts of a link but its value, or nothing where no link is.
+// A link without its value.
 #[derive(Drop)]
 pub(crate) struct LinkRead<P: PtrKey> {
     pub(crate) generation: Option<P::Gen>,
@@ -22,7 +20,6 @@ pub(crate) struct LinkRead<P: PtrKey> {
 }
 
 impl<P: PtrKey> LinkRead<P> {
-    // Returns whether there is a link without a destination.
     pub(crate) fn is_fresh(&self) -> bool
         ensures { result ≡ (is_some self.now.generation && is_none self.now.destination) }
     {
@@ -30,7 +27,6 @@ impl<P: PtrKey> LinkRead<P> {
     }
 }
 
-// Reads the link at `i`.
 pub(crate) fn read_link<P: PtrKey, T: Drop, S: SlotStack<Item = LinkSlot<P, T>>>(
     compactor: &mut Compactor<'_, P, LinkNoGen<P, T>, S>,
     i: P::Inx,
@@ -54,7 +50,6 @@ pub(crate) fn read_link<P: PtrKey, T: Drop, S: SlotStack<Item = LinkSlot<P, T>>>
     }
 }
 
-// Removes the destination of the link at `i`. It does not test whether there is one.
 #[inline(always)]
 pub(crate) fn remove_destination_at<P: PtrKey, T: Drop, S: SlotStack<Item = LinkSlot<P, T>>>(
     compactor: &mut Compactor<'_, P, LinkNoGen<P, T>, S>,
@@ -71,7 +66,6 @@ pub(crate) fn remove_destination_at<P: PtrKey, T: Drop, S: SlotStack<Item = Link
     }
 }
 
-// Sets `prev`, `next` and the destination of the link at `i`, if any.
 pub(crate) fn relink_at<P: PtrKey, T: Drop, S: SlotStack<Item = LinkSlot<P, T>>>(
     compactor: &mut Compactor<'_, P, LinkNoGen<P, T>, S>,
     i: P::Inx,

@@ -1,4 +1,4 @@
--- Lemmas on chains: membership, existence and uniqueness.
+-- Chains: membership, existence and uniqueness.
 pub mod LinkedLists
 pub mod Uniqueness
 pub mod Rotations

@@ -1,3 +1,3 @@
--- Lemmas on cuts between two neighbors.
+-- Cuts between two neighbors.
 pub mod Pairs
 pub mod Chains

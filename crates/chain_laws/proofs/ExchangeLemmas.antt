@@ -1,4 +1,4 @@
--- Lemmas on exchanges of the links after two links.
+-- Exchanges of the links after two links.
 pub mod Swaps
 pub mod Pairs
 pub mod Chains

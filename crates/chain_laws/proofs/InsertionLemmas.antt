@@ -1,4 +1,4 @@
--- Lemmas on insertions.
+-- Insertions.
 pub mod Positions
 pub mod Pairs
 pub mod Undo

@@ -1,4 +1,4 @@
--- Lemmas on interlinks as plain functions, without chains.
+-- Interlinks as plain functions, without chains.
 pub mod Inverses
 pub mod Linked
 pub mod Skips

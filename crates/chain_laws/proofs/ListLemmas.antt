@@ -1,4 +1,4 @@
--- Lemmas on lists of indexes.
+-- Lists of indexes.
 pub mod Members
 pub mod Ranges
 pub mod MemberLaws

@@ -81,7 +81,6 @@ module _ (link_map : LinkMap) (p q : ℕ) (agrees : IsWellLinked link_map) (vali
       back i h (inl e) = inr e
       back i h (inr ne) = inl ((HasLink-removed link_map p i).1 (h, ne))
 
-  -- The link at a, which p followed, is followed by what came after p; so p fits there again.
   module _ (a : ℕ) (before : prev_of link_map p ≡ Some a) (other : a ≢ p) where
     followed : next_of link_map a ≡ Some p
     followed = (agrees.both a p).1 before

@@ -24,12 +24,10 @@ with_prev_at-same left right (Some i) v j e = ap (λ (o : Option Interlinks). if
 linked-same : (left right : LinkMap) (u v : Option ℕ) (j : ℕ) → left j ≡ right j → with_neighbors left u v j ≡ with_neighbors right u v j
 linked-same left right u v j e = with_prev_at-same (with_next_at left u v) (with_next_at right u v) v u j (with_next_at-same left right u v j e)
 
--- The links before and after p follow one another, and p is where it was.
 abbrev pub skipped : LinkMap → ℕ → LinkMap
 skipped link_map p = with_neighbors link_map (prev_of link_map p) (next_of link_map p)
 
 module _ (p q : ℕ) (apart : p ≢ q) where
-  -- p between q and v, whatever it was between.
   abbrev pub placed : LinkMap → Option ℕ → LinkMap
   placed link_map v = with_neighbors (with_neighbors link_map (Some q) (Some p)) (Some p) v
 

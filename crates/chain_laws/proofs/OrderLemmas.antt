@@ -128,7 +128,6 @@ module _ (old new : LinkMap) (x y : ℕ) (moves : MovesAfter old new y x) where
             subst (λ (zs : List ℕ). IsChain new (cyclic zs)) (append_assoc l (x ∷ y ∷ a) b)
             (rotated new b (l ++ x ∷ y ∷ a) (subst (λ (zs : List ℕ). IsChain new (cyclic zs)) (append_assoc b l (x ∷ y ∷ a)) after))
 
-  -- A chain without x stays without y.
   module _ (kind : List ℕ → Chain)
       (leaves : (a b : List ℕ) → IsChain old (kind (a ++ y ∷ b)) → (IsMember (a ++ b) x → ⊥) → a ++ b ≢ [] → IsChain new (kind (a ++ b)))
       (stays : (zs : List ℕ) → (IsMember zs y → ⊥) → (IsMember zs x → ⊥) → IsChain old (kind zs) → IsChain new (kind zs))
@@ -147,13 +146,11 @@ module _ (old new : LinkMap) (x y : ℕ) (moves : MovesAfter old new y x) where
         by (inl h) = let w = IsMember-written xs y h in of_parts w.0 w.1 w.2
         by (inr no_y) = subst (λ (zs : List ℕ). IsChain new (kind zs)) (sym (list_without-none xs y no_y)) (stays xs no_y none chain)
 
--- Links x and followers of a well linked arena, without repetition.
 pub record CanFollow (link_map : LinkMap) (x : ℕ) (followers : List ℕ) : Type 0 where
   pub agrees : IsWellLinked link_map
   pub valid : (i : ℕ) → IsMember (x ∷ followers) i → HasLink link_map i
   pub once : AreDistinct (x ∷ followers)
 
--- The first move.
 module _ (link_map : LinkMap) (x y : ℕ) (followers : List ℕ) (can : CanFollow link_map x (y ∷ followers)) where
   abbrev pub next : LinkMap
   next = with_move_after link_map y x
@@ -171,7 +168,6 @@ module _ (link_map : LinkMap) (x y : ℕ) (followers : List ℕ) (can : CanFollo
     once = can.once.1;
   }
 
--- The chain of x.
 module _ (kind : List ℕ → Chain)
     (one : (old new : LinkMap) (x y : ℕ) → MovesAfter old new y x → (l r : List ℕ) → y ≢ x → IsChain old (kind (l ++ x ∷ r)) → IsChain new (kind (list_without l y ++ x ∷ y ∷ list_without r y))) where
   placed : (followers : List ℕ) (link_map : LinkMap) (x : ℕ) (l r : List ℕ) → CanFollow link_map x followers → IsChain link_map (kind (l ++ x ∷ r))
@@ -208,7 +204,6 @@ module _ (kind : List ℕ → Chain)
           (subst (λ (zs : List ℕ). IsChain (with_followers link_map x followers) (kind (x ∷ followers ++ zs))) right
           (subst (λ (zs : List ℕ). IsChain (with_followers link_map x followers) (kind (zs ++ x ∷ followers ++ list_without_all r followers))) left here))
 
--- A chain without x.
 module _ (kind : List ℕ → Chain)
     (one : (old new : LinkMap) (x y : ℕ) → MovesAfter old new y x → (xs : List ℕ) → IsChain old (kind xs) → (IsMember xs x → ⊥) → list_without xs y ≢ [] → IsChain new (kind (list_without xs y))) where
   left : (followers : List ℕ) (link_map : LinkMap) (x : ℕ) (xs : List ℕ) → CanFollow link_map x followers → IsChain link_map (kind xs) → (IsMember xs x → ⊥) → list_without_all xs followers ≢ []
@@ -277,7 +272,6 @@ order_agrees link_map (x ∷ followers) agrees valid beside = go followers link_
         let moves = move_moves link_map y x agrees at_y at_x other in
         go followers (with_move_after link_map y x) y (move_agrees link_map y x agrees at_y at_x other) (λ i h. (moves.links i).1 (valid i (inr h))) beside.1
 
--- A follower that follows already stays.
 module _ (kind : List ℕ → Chain)
     (follows : (link_map : LinkMap) (l r : List ℕ) (x y : ℕ) → IsChain link_map (kind (l ++ x ∷ y ∷ r)) → next_of link_map x ≡ Some y) where
   stays : (followers l : List ℕ) (link_map : LinkMap) (x : ℕ) → IsWellLinked link_map → AreDistinct (l ++ x ∷ followers) → IsChain link_map (kind (l ++ x ∷ followers))

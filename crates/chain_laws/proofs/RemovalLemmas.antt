@@ -1,4 +1,4 @@
--- Lemmas on removals.
+-- Removals.
 pub mod Pairs
 pub mod Chains
 pub mod Determinacy

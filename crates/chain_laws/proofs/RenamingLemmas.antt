@@ -1,4 +1,4 @@
--- Lemmas on renamings, arrangements and moves.
+-- Renamings, arrangements and moves.
 pub mod Images
 pub mod Chains
 pub mod Positions

@@ -1,3 +1,3 @@
--- Lemmas on reversals of a chain.
+-- Reversals of a chain.
 pub mod Turns
 pub mod Chains

@@ -1,4 +1,4 @@
--- Lemmas on moves of a run.
+-- Moves of a run.
 pub mod Interlinks
 pub mod Undo
 pub mod Follows

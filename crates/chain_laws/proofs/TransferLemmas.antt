@@ -1,3 +1,3 @@
--- Lemmas on transfers of chains from one arena to another.
+-- Transfers of chains from one arena to another.
 pub mod Source
 pub mod Target

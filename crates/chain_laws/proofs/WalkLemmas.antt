@@ -1,4 +1,4 @@
--- Lemmas on walks along a chain.
+-- Walks along a chain.
 pub mod Walker
 pub mod Ahead
 pub mod Steps

@@ -1,37 +1,36 @@
--- Arrangements of all links, and the renumberings they give.
+-- Arrangements of links.
 use Rattle.std.specs.Prelude.{◌≡◌, ◌↔◌, ℕ, suc, ◌+◌, ◌≤◌, ◌==◌, if◌then◌else◌, List, [], ◌∷◌, length, Option, None, Some}
 use Rattle.std.specs.List.{range_with_len}
 use Rattle.chain_laws.specs.Chains.{LinkMap, Chain, linear, cyclic, all_items, IsMember, AreDistinct, HasLink, HasLinksWithin, IsWellLinked, AreChains}
 use Rattle.chain_laws.specs.Neighbors.{AreTheChains, HasOneSetOfChains}
 use Rattle.chain_laws.specs.Renamings.{IsRenaming, AreImages}
 
--- A list of each valid index once, and nothing else.
+-- Each valid index once, and nothing else.
 pub record IsArrangement (link_map : LinkMap) (indexes : List ℕ) : Type 0 where
   pub once : AreDistinct indexes
   pub valid : (i : ℕ) → HasLink link_map i ↔ IsMember indexes i
 
--- The position of an index in a list, counted from n.
 abbrev pub place_from : ℕ → List ℕ → ℕ → Option ℕ
 place_from n [] i = None
 place_from n (x ∷ xs) i = if x == i then Some n else place_from (suc n) xs i
 
--- The renumbering by a list: the k-th item moves to k.
+-- The k-th item moves to k.
 abbrev pub place_in : List ℕ → ℕ → Option ℕ
 place_in indexes i = place_from 1 indexes i
 
--- The chains one after another, cyclic ones from any of their links.
+-- The chains one after another, cyclic ones from any link.
 pub record IsCanonical (link_map : LinkMap) (indexes : List ℕ) : Type 0 where
   pub chains : List Chain
   pub are : AreChains link_map chains
   pub items : indexes ≡ all_items chains
 
--- The chains one after another by least index, cyclic ones from their least index.
+-- The chains by least index, cyclic ones from theirs.
 pub record IsLeastIndexOrder (link_map : LinkMap) (indexes : List ℕ) : Type 0 where
   pub chains : List Chain
   pub are : AreTheChains link_map chains
   pub items : indexes ≡ all_items chains
 
--- The least-index order, from the one set of chains.
+-- The least-index order.
 abbrev pub order_of : {link_map : LinkMap} → HasOneSetOfChains link_map → List ℕ
 order_of one = all_items one.chains
 
@@ -41,7 +40,7 @@ in_runs k [] = []
 in_runs k (linear xs ∷ chains) = linear (range_with_len k (length xs)) ∷ in_runs (k + length xs) chains
 in_runs k (cyclic xs ∷ chains) = cyclic (range_with_len k (length xs)) ∷ in_runs (k + length xs) chains
 
--- An arrangement moves the k-th link to index k, up to the number of links.
+-- An arrangement moves the k-th link to k.
 abbrev pub ArrangementNumbers : Type 0
 ArrangementNumbers = (link_map : LinkMap) (indexes : List ℕ) → IsArrangement link_map indexes → AreImages (place_in indexes) indexes (range_with_len 1 (length indexes))
 
@@ -49,11 +48,11 @@ ArrangementNumbers = (link_map : LinkMap) (indexes : List ℕ) → IsArrangement
 abbrev pub PlacesAreApart : Type 0
 PlacesAreApart = (indexes : List ℕ) (i j k : ℕ) → place_in indexes i ≡ Some k → place_in indexes j ≡ Some k → i ≡ j
 
--- The chains one after another are an arrangement.
+-- A canonical list is an arrangement.
 abbrev pub CanonicalArranges : Type 0
 CanonicalArranges = (link_map : LinkMap) (indexes : List ℕ) → IsCanonical link_map indexes → IsArrangement link_map indexes
 
--- Renumbering by the chains moves each to a run, in their order, from index 1 on.
+-- Renumbering by the chains moves each to a run, in order, from 1 on.
 abbrev pub PlacesChainsInRuns : Type 0
 PlacesChainsInRuns = (old new : LinkMap) (chains : List Chain) → AreChains old chains → IsRenaming (place_in (all_items chains)) old new
     → AreChains new (in_runs 1 chains) × (all_items (in_runs 1 chains) ≡ range_with_len 1 (length (all_items chains)))
@@ -75,11 +74,11 @@ LeastIndexOrderIsUnique = (link_map : LinkMap) (one : HasOneSetOfChains link_map
 abbrev pub LeastIndexOrderIsCanonical : Type 0
 LeastIndexOrderIsCanonical = (link_map : LinkMap) (indexes : List ℕ) → IsLeastIndexOrder link_map indexes → IsCanonical link_map indexes
 
--- If the indexes from 1 to n are canonical, they are the least-index order.
+-- If 1 to n are canonical, they are the least-index order.
 abbrev pub LeastIndexOrderRests : Type 0
 LeastIndexOrderRests = (link_map : LinkMap) (n : ℕ) → IsCanonical link_map (range_with_len 1 n) → IsLeastIndexOrder link_map (range_with_len 1 n)
 
--- After arranging by the least-index order, that order is the indexes from 1 on.
+-- Arranging by the least-index order makes it the indexes from 1 on.
 abbrev pub LayoutIsIdempotent : Type 0
 LayoutIsIdempotent = (old new : LinkMap) (indexes : List ℕ) → IsLeastIndexOrder old indexes → IsRenaming (place_in indexes) old new
     → IsLeastIndexOrder new (range_with_len 1 (length indexes))
@@ -88,7 +87,6 @@ LayoutIsIdempotent = (old new : LinkMap) (indexes : List ℕ) → IsLeastIndexOr
 abbrev pub PlacesRest : Type 0
 PlacesRest = (n i : ℕ) → 1 ≤ i → i ≤ n → place_in (range_with_len 1 n) i ≡ Some i
 
--- The least-index order exists, is unique and canonical, and rests after an arrangement by it.
 abbrev pub LeastIndexOrderLaws : Type 0
 LeastIndexOrderLaws = record {
   there_is_one : HasLeastIndexOrder;

@@ -8,46 +8,37 @@ use Rattle.chain_laws.specs.Joins.{with_neighbors, with_join, KeepsChainsWithout
 abbrev pub without_pair : LinkMap → ℕ → ℕ → LinkMap
 without_pair link_map a b = with_neighbors (with_neighbors link_map (Some a) None) None (Some b)
 
--- Exactly the neighbor pair (a, b) is removed.
+-- Exactly the pair (a, b) is removed.
 pub record TakesPair (old new : LinkMap) (a b : ℕ) : Type 0 where
   pub pairs : (i j : ℕ) → AreNeighbors new i j ↔ (AreNeighbors old i j × ((i ≡ a) × (j ≡ b) → ⊥))
   pub links : (i : ℕ) → HasLink new i ↔ HasLink old i
 
--- The chain is cut between a and b.
+-- By chains: a chain is cut between a and b.
 pub record Cuts (old new : LinkMap) (a b : ℕ) : Type 0 where
-  -- A linear chain becomes two.
   pub two : (x y : List ℕ) → IsChain old (linear (x ++ a ∷ b ∷ y)) → IsChain new (linear (x ++ a ∷ [])) × IsChain new (linear (b ∷ y))
-  -- A cyclic chain, written from b to a, becomes linear.
   pub one : (xs : List ℕ) → IsChain old (cyclic xs) → first_or xs None ≡ Some b → last_or xs None ≡ Some a → IsChain new (linear xs)
   pub rest : KeepsChainsWithout old new a b
 
--- A cut keeps the arena well linked.
 abbrev pub CutAgrees : Type 0
 CutAgrees = (link_map : LinkMap) (a b : ℕ) → IsWellLinked link_map → AreNeighbors link_map a b → IsWellLinked (without_pair link_map a b)
 
--- A cut removes its pair and no other.
 abbrev pub CutTakesAPair : Type 0
 CutTakesAPair = (link_map : LinkMap) (a b : ℕ) → AreNeighbors link_map a b → TakesPair link_map (without_pair link_map a b) a b
 
--- A cut cuts the chain.
 abbrev pub CutPartsChains : Type 0
 CutPartsChains = (link_map : LinkMap) (a b : ℕ) → Cuts link_map (without_pair link_map a b) a b
 
--- `Cuts` gives exactly the chains of the cut.
 abbrev pub CutIsDetermined : Type 0
 CutIsDetermined = (old new : LinkMap) (slots a b : ℕ) → IsWellLinked old → HasLinksWithin old slots → AreNeighbors old a b
     → Cuts old new a b → HaveSameChains new (without_pair old a b)
 
--- `TakesPair` with a well-linked result gives exactly the cut.
 abbrev pub CutIsDeterminedByPairs : Type 0
 CutIsDeterminedByPairs = (old new : LinkMap) (a b : ℕ) → IsWellLinked old → IsWellLinked new → AreNeighbors old a b → TakesPair old new a b → new ≡ without_pair old a b
 
--- A cut gives an end and a start, and joining them restores the arena.
 abbrev pub JoinOfCutRestores : Type 0
 JoinOfCutRestores = (link_map : LinkMap) (a b : ℕ) → IsWellLinked link_map → AreNeighbors link_map a b
     → AreEndAndStart (without_pair link_map a b) a b × (with_join (without_pair link_map a b) a b ≡ link_map)
 
--- A join gives neighbors, and cutting them restores the arena.
 abbrev pub CutOfJoinRestores : Type 0
 CutOfJoinRestores = (link_map : LinkMap) (a b : ℕ) → IsWellLinked link_map → AreEndAndStart link_map a b
     → AreNeighbors (with_join link_map a b) a b × (without_pair (with_join link_map a b) a b ≡ link_map)

@@ -1,25 +1,23 @@
--- Exchanges of what follows two links.
+-- Exchanges.
 use Rattle.std.specs.Prelude.{◌≡◌, ◌≢◌, ◌↔◌, ℕ, ◌+◌, ◌⊎◌, List, [], ◌∷◌, ◌++◌, length, Some}
 use Rattle.chain_laws.specs.Chains.{LinkMap, linear, cyclic, IsMember, IsChain, HasLink, HasLinksWithin, IsWellLinked, next_of}
 use Rattle.chain_laws.specs.Neighbors.{AreNeighbors, IsRotation}
 use Rattle.chain_laws.specs.Joins.{with_neighbors, KeepsChainsWithout, HaveSameChains}
 
--- p and q trade what follows them, which may be nothing; p may be q.
+-- p and q trade what follows them, perhaps nothing; p may be q.
 abbrev pub with_exchange : LinkMap → ℕ → ℕ → LinkMap
 with_exchange link_map p q = with_neighbors (with_neighbors link_map (Some p) (next_of link_map q)) (Some q) (next_of link_map p)
 
--- By pairs: (p, a) and (q, b) become (p, b) and (q, a); others stay.
+-- By pairs: (p, a) and (q, b) become (p, b) and (q, a).
 pub record ExchangesPairs (old new : LinkMap) (p q : ℕ) : Type 0 where
   pub pairs : (i j : ℕ) → AreNeighbors new i j
       ↔ ((AreNeighbors old i j × (i ≢ p) × (i ≢ q)) ⊎ ((i ≡ p) × AreNeighbors old q j) ⊎ ((i ≡ q) × AreNeighbors old p j))
   pub links : (i : ℕ) → HasLink new i ↔ HasLink old i
 
--- The cases not symmetric in p and q; a cyclic chain is written with q last.
+-- The cases not symmetric in p and q.
 pub record ExchangesInOrder (old new : LinkMap) (p q : ℕ) : Type 0 where
-  -- p before q in a linear chain: the links after p up to q become cyclic.
   pub taken_out : (x m y : List ℕ) → IsChain old (linear (x ++ p ∷ m ++ q ∷ y))
       → IsChain new (linear (x ++ p ∷ y)) × IsChain new (cyclic (m ++ q ∷ []))
-  -- The inverse: the cyclic chain of q goes into the linear chain of p, after p.
   pub taken_in : (x y z : List ℕ) → IsChain old (linear (x ++ p ∷ y)) → IsChain old (cyclic (z ++ q ∷ []))
       → IsChain new (linear (x ++ p ∷ z ++ q ∷ y))
 
@@ -27,36 +25,29 @@ pub record ExchangesInOrder (old new : LinkMap) (p q : ℕ) : Type 0 where
 pub record Exchanges (old new : LinkMap) (p q : ℕ) : Type 0 where
   pub in_order : ExchangesInOrder old new p q
   pub in_other_order : ExchangesInOrder old new q p
-  -- Two linear chains trade what follows p and q.
   pub two_linear : (x y z w : List ℕ) → IsChain old (linear (x ++ p ∷ y)) → IsChain old (linear (z ++ q ∷ w)) → (IsMember (x ++ p ∷ y) q → ⊥)
       → IsChain new (linear (x ++ p ∷ w)) × IsChain new (linear (z ++ q ∷ y))
-  -- Two cyclic chains become one.
   pub two_cyclic : (x y : List ℕ) → IsChain old (cyclic (p ∷ x)) → IsChain old (cyclic (q ∷ y)) → (IsMember (p ∷ x) q → ⊥)
       → IsChain new (cyclic (p ∷ y ++ q ∷ x))
-  -- One cyclic chain becomes two.
   pub one_cyclic : (x y : List ℕ) → IsChain old (cyclic (p ∷ x ++ q ∷ y)) → IsChain new (cyclic (p ∷ y)) × IsChain new (cyclic (q ∷ x))
-  -- p is q: all chains stay.
   pub itself : p ≡ q → HaveSameChains old new
   pub rest : KeepsChainsWithout old new p q
 
--- An exchange keeps the arena well linked.
 abbrev pub ExchangeAgrees : Type 0
 ExchangeAgrees = (link_map : LinkMap) (p q : ℕ) → IsWellLinked link_map → HasLink link_map p → HasLink link_map q → IsWellLinked (with_exchange link_map p q)
 
--- An exchange changes pairs as `ExchangesPairs` states.
 abbrev pub ExchangeInPairs : Type 0
 ExchangeInPairs = (link_map : LinkMap) (p q : ℕ) → IsWellLinked link_map → HasLink link_map p → HasLink link_map q → ExchangesPairs link_map (with_exchange link_map p q) p q
 
--- An exchange changes chains as `Exchanges` states.
 abbrev pub ExchangeExchanges : Type 0
 ExchangeExchanges = (link_map : LinkMap) (p q : ℕ) → IsWellLinked link_map → HasLink link_map p → HasLink link_map q → Exchanges link_map (with_exchange link_map p q) p q
 
--- `Exchanges` gives exactly the chains of the exchange.
+-- `Exchanges` gives exactly the exchange's chains.
 abbrev pub ExchangeIsDetermined : Type 0
 ExchangeIsDetermined = (old new : LinkMap) (slots p q : ℕ) → IsWellLinked old → HasLinksWithin old slots → HasLink old p → HasLink old q
     → Exchanges old new p q → HaveSameChains new (with_exchange old p q)
 
--- `ExchangesPairs` with a well-linked result gives exactly the exchange.
+-- `ExchangesPairs`, well linked, gives exactly the exchange.
 abbrev pub ExchangeIsDeterminedByPairs : Type 0
 ExchangeIsDeterminedByPairs = (old new : LinkMap) (p q : ℕ) → IsWellLinked old → IsWellLinked new → HasLink old p → HasLink old q
     → ExchangesPairs old new p q → new ≡ with_exchange old p q
@@ -70,18 +61,17 @@ ExchangeTwiceRestores = (link_map : LinkMap) (p q : ℕ) → IsWellLinked link_m
 abbrev pub ExchangeWithItselfKeeps : Type 0
 ExchangeWithItselfKeeps = (link_map : LinkMap) (p : ℕ) → IsWellLinked link_map → HasLink link_map p → with_exchange link_map p p ≡ link_map
 
--- An exchange is symmetric in the two links.
+-- An exchange is symmetric.
 abbrev pub ExchangeIsMutual : Type 0
 ExchangeIsMutual = (link_map : LinkMap) (p q : ℕ) → IsWellLinked link_map → HasLink link_map p → HasLink link_map q → with_exchange link_map p q ≡ with_exchange link_map q p
 
--- An exchange of two links of one cyclic chain, written from any link, splits it into two with its
--- links.
+-- An exchange within a cyclic chain, from any link, splits it in two.
 abbrev pub ExchangeSplitsACycle : Type 0
 ExchangeSplitsACycle = (link_map : LinkMap) (p q : ℕ) (xs : List ℕ) → IsWellLinked link_map → p ≢ q → IsChain link_map (cyclic xs) → IsMember xs p → IsMember xs q
     → (x : List ℕ) × (y : List ℕ) × IsRotation (cyclic xs) (cyclic (p ∷ x ++ q ∷ y))
     × IsChain (with_exchange link_map p q) (cyclic (p ∷ y)) × IsChain (with_exchange link_map p q) (cyclic (q ∷ x))
 
--- An exchange merges the cyclic chains of two links; the result has the links of both.
+-- An exchange of two cyclic chains merges them.
 abbrev pub ExchangeMergesCycles : Type 0
 ExchangeMergesCycles = (link_map : LinkMap) (p q : ℕ) (xs ys : List ℕ) → IsWellLinked link_map → IsChain link_map (cyclic xs) → IsChain link_map (cyclic ys)
     → IsMember xs p → IsMember ys q → (IsMember xs q → ⊥)
@@ -95,7 +85,6 @@ pub record IsMerged (link_map : LinkMap) (xs ys : List ℕ) : Type 0 where
   pub members : (i : ℕ) → IsMember merged i ↔ (IsMember xs i ⊎ IsMember ys i)
   pub size : length merged ≡ length xs + length ys
 
--- The chain merged from two cyclic ones has the links of both.
 abbrev pub MergedCycleHasBoth : Type 0
 MergedCycleHasBoth = (old new : LinkMap) (p q : ℕ) (xs ys : List ℕ) → Exchanges old new p q → IsChain old (cyclic xs) → IsChain old (cyclic ys)
     → IsMember xs p → IsMember ys q → (IsMember xs q → ⊥) → IsMerged new xs ys

@@ -1,7 +1,4 @@
--- Chains that a change leaves alone.
---
--- For chains without the links that a change names, see `rest` of `Connects`, `Cuts`, `Exchanges`,
--- `Inserts` and `Removes`. The laws here require less, or say which chains existed before.
+-- Unchanged chains.
 use Rattle.std.specs.Prelude.{◌≡◌, ℕ, ◌⊎◌, List, [], ◌∷◌, Option, None}
 use Rattle.chain_laws.specs.Chains.{LinkMap, Chain, items, IsMember, IsChain, IsWellLinked, prev_of, next_of}
 use Rattle.chain_laws.specs.Neighbors.{AreNeighbors}
@@ -12,7 +9,6 @@ use Rattle.chain_laws.specs.declared.insert_kind.InsertKind.{InsertKind}
 use Rattle.chain_laws.specs.declared.insert_kind.InsertKind.TheVariants.{Disconnected, SingleLinkCyclic, ChainEnd, ChainEndInx, ChainStart, ChainStartInx, NextTo, NextToInx, PrevTo, PrevToInx, AtInterlink, AtInterlinkInx, Bridge, BridgeInx}
 use Rattle.chain_laws.specs.Insertions.{HasIndex, IsInsertPosition, Inserts, link_before, link_after, with_insertion}
 
--- The chain has none of these.
 abbrev pub IsDisjointFrom : Chain → List ℕ → Type 0
 IsDisjointFrom c [] = Unit {0}
 IsDisjointFrom c (x ∷ xs) = (IsMember (items c) x → ⊥) × IsDisjointFrom c xs
@@ -34,36 +30,29 @@ links_named place number (AtInterlinkInx a b) = number a ∷ number b ∷ []
 links_named place number (Bridge a b) = place a ∷ place b ∷ []
 links_named place number (BridgeInx a b) = number a ∷ number b ∷ []
 
--- A chain stays if its links keep their interlinks.
 abbrev pub SameLinksKeepAChain : Type 0
 SameLinksKeepAChain = (old new : LinkMap) (c : Chain) → ((i : ℕ) → IsMember (items c) i → new i ≡ old i) → IsChain old c → IsChain new c
 
--- An insertion keeps a chain without the links that its kind names.
 abbrev pub InsertionKeepsOthers : (P I : Type 0) → Type 0
 InsertionKeepsOthers P I = (place : P → ℕ) (number : I → ℕ) (old new : LinkMap) (kind : InsertKind P I) (q : ℕ) → IsWellLinked old → old q ≡ None
     → Inserts old new q (link_before place number old kind q) (link_after place number old kind q)
     → (c : Chain) → IsDisjointFrom c (links_named place number kind) → IsChain old c → IsChain new c
 
--- After an insertion, a chain without the new link existed before.
 abbrev pub InsertionMakesNoOthers : Type 0
 InsertionMakesNoOthers = (link_map : LinkMap) (q : ℕ) (u v : Option ℕ) → IsWellLinked link_map → link_map q ≡ None → IsInsertPosition link_map q u v
     → (c : Chain) → (IsMember (items c) q → ⊥) → IsChain (with_insertion link_map q u v) c → IsChain link_map c
 
--- A new lone link keeps every chain.
 abbrev pub LoneKeepsEach : Type 0
 LoneKeepsEach = (old new : LinkMap) (q : ℕ) → old q ≡ None → AddsLone old new q → (c : Chain) → IsChain old c → IsChain new c
 
--- A cut keeps a chain without one of the two neighbors.
 abbrev pub CutKeepsOthers : Type 0
 CutKeepsOthers = (old new : LinkMap) (a b : ℕ) → IsWellLinked old → AreNeighbors old a b → Cuts old new a b
     → (c : Chain) → (IsMember (items c) a → ⊥) ⊎ (IsMember (items c) b → ⊥) → IsChain old c → IsChain new c
 
--- After a join, a chain without one of the two links existed before.
 abbrev pub JoinMakesNoOthers : Type 0
 JoinMakesNoOthers = (link_map : LinkMap) (a b : ℕ) → IsWellLinked link_map → AreEndAndStart link_map a b
     → (c : Chain) → (IsMember (items c) a → ⊥) ⊎ (IsMember (items c) b → ⊥) → IsChain (with_join link_map a b) c → IsChain link_map c
 
--- After a removal, a chain without the links that the removed one named existed before.
 abbrev pub RemovalMakesNoOthers : Type 0
 RemovalMakesNoOthers = (link_map : LinkMap) (i : ℕ) → (c : Chain) → (HasIndex c (prev_of link_map i) → ⊥) → (HasIndex c (next_of link_map i) → ⊥)
     → IsChain (with_removal link_map i) c → IsChain link_map c

@@ -1,11 +1,11 @@
--- Renamings, which move each link to another index.
+-- Renamings.
 use Rattle.std.specs.Prelude.{◌≡◌, ◌↔◌, ℕ, List, [], ◌∷◌, Option, Some}
 use Rattle.std.specs.Option.{option_and_then}
 use Rattle.chain_laws.specs.Chains.{LinkMap, Chain, linear, cyclic, HasLink, IsWellLinked, IsChain, AreChains}
 use Rattle.chain_laws.specs.Neighbors.{AreNeighbors}
 
--- Each link is at its new index and names the new indexes of its neighbors; no two share an index,
--- and there are no other links.
+-- Each link is at its new index and names its neighbors there, no two share an index, and there are
+-- no others.
 pub record IsRenaming (to : ℕ → Option ℕ) (old new : LinkMap) : Type 0 where
   pub apart : (i j k : ℕ) → to i ≡ Some k → to j ≡ Some k → i ≡ j
   pub each : (i : ℕ) → HasLink old i → (k : ℕ) × (to i ≡ Some k)
@@ -13,14 +13,13 @@ pub record IsRenaming (to : ℕ → Option ℕ) (old new : LinkMap) : Type 0 whe
   pub carries : (i k : ℕ) (before after : Option ℕ) → old i ≡ Some (record { prev = before; next = after }) → to i ≡ Some k
       → new k ≡ Some (record { prev = option_and_then to before; next = option_and_then to after })
 
--- The new indexes of the items, in order.
 abbrev pub AreImages : (ℕ → Option ℕ) → List ℕ → List ℕ → Type 0
 AreImages to [] [] = Unit {0}
 AreImages to [] (y ∷ ys) = ⊥
 AreImages to (x ∷ xs) [] = ⊥
 AreImages to (x ∷ xs) (y ∷ ys) = (to x ≡ Some y) × AreImages to xs ys
 
--- The chain of the new indexes; it stays linear or cyclic.
+-- The chain of the new indexes, linear or cyclic as before.
 abbrev pub IsImage : (ℕ → Option ℕ) → Chain → Chain → Type 0
 IsImage to (linear xs) (linear ys) = AreImages to xs ys
 IsImage to (cyclic xs) (cyclic ys) = AreImages to xs ys
@@ -42,11 +41,11 @@ abbrev pub RenamingCarriesPairs : Type 0
 RenamingCarriesPairs = (to : ℕ → Option ℕ) (old new : LinkMap) (i j k m : ℕ) → IsRenaming to old new → HasLink old i → to i ≡ Some k → to j ≡ Some m
     → AreNeighbors old i j ↔ AreNeighbors new k m
 
--- The image of a chain is a chain, linear or cyclic as before.
+-- The image of a chain is a chain.
 abbrev pub RenamingCarriesChains : Type 0
 RenamingCarriesChains = (to : ℕ → Option ℕ) (old new : LinkMap) (c d : Chain) → IsRenaming to old new → IsChain old c → IsImage to c d → IsChain new d
 
--- The images of all chains are all chains of the new arena.
+-- The images of all chains are all new chains.
 abbrev pub RenamingCarriesAll : Type 0
 RenamingCarriesAll = (to : ℕ → Option ℕ) (old new : LinkMap) (chains others : List Chain) → IsRenaming to old new → AreChains old chains → AreImagesOf to chains others
     → AreChains new others
@@ -55,7 +54,6 @@ RenamingCarriesAll = (to : ℕ → Option ℕ) (old new : LinkMap) (chains other
 abbrev pub RenamingIsDetermined : Type 0
 RenamingIsDetermined = (to : ℕ → Option ℕ) (old new other : LinkMap) → IsRenaming to old new → IsRenaming to old other → new ≡ other
 
--- What a renaming carries to the new indexes, and that these determine the result.
 abbrev pub RenamingLaws : Type 0
 RenamingLaws = record {
   agrees : RenamingAgrees;

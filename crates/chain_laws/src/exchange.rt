@@ -1,44 +1,39 @@
-//! Laws of exchanges of what follows two links.
+//! Laws of exchanges.
 
 ghost use Rattle.chain_laws.specs.Exchanges.{ExchangeAgrees, ExchangeInPairs, ExchangeExchanges, ExchangeSplitsACycle, ExchangeMergesCycles, MergedCycleHasBoth};
 ghost use Rattle.chain_laws.specs.Exchanges.{ExchangeIsDetermined, ExchangeIsDeterminedByPairs, ExchangeTwiceRestores, ExchangeWithItselfKeeps, ExchangeIsMutual};
 
-/// States that an exchange keeps the arena well linked.
+/// Exchanges keep links well linked.
 pub fn exchange_agrees()
     ensures { ExchangeAgrees }
 {}
 
-/// States that the two links swap the second items of their pairs; all other pairs stay.
+/// Two links swap their next links.
 pub fn exchange_in_pairs()
     ensures { ExchangeInPairs }
 {}
 
-/// States that two links trade what follows them, in one chain or two, linear or cyclic.
-///
-/// Every other chain stays.
+/// Two links trade what follows them.
 pub fn exchange_exchanges()
     ensures { ExchangeExchanges }
 {}
 
-/// States that an exchange splits one cyclic chain or merges two, wherever they are written from.
+/// An exchange splits or merges cyclic chains.
 pub fn exchange_of_cycles()
     ensures { ExchangeSplitsACycle × ExchangeMergesCycles }
 {}
 
-/// States that the chain merged from two cyclic ones has the links of both and no others.
+/// A merged chain has exactly the links of both.
 pub fn merged_cycle_has_both()
     ensures { MergedCycleHasBoth }
 {}
 
-/// States that `Exchanges`, or `ExchangesPairs` with a well-linked result, gives exactly the chains
-/// of the exchange.
+/// `Exchanges`, or well-linked `ExchangesPairs`, determines an exchange.
 pub fn exchange_is_determined()
     ensures { ExchangeIsDetermined × ExchangeIsDeterminedByPairs }
 {}
 
-/// States that an exchange done twice, or of a link with itself, restores the interlinks.
-///
-/// The order of the two links does not matter.
+/// An exchange is symmetric and undoes itself.
 pub fn exchange_restores()
     ensures { ExchangeTwiceRestores × ExchangeWithItselfKeeps × ExchangeIsMutual }
 {}

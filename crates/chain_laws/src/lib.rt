@@ -1,7 +1,4 @@
-//! The definition of chains, and every law about chains alone.
-//!
-//! There is no code here but the kinds of insertion: each function has an empty body, and its
-//! contract states a law.
+//! Chains, and laws about them.
 #![tactic(auto)]
 
 pub mod cut;

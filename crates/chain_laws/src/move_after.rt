@@ -1,18 +1,18 @@
-//! Laws of moves of a link to the place after another one.
+//! Laws of moves after another link.
 
 ghost use Rattle.chain_laws.specs.MoveAfter.{MoveAgrees, MoveMoves, MoveBackRestores};
 
-/// States that a move keeps the arena well linked.
+/// Moves keep links well linked.
 pub fn move_agrees()
     ensures { MoveAgrees }
 {}
 
-/// States that a link leaves its chain and comes after another link; other chains stay.
+/// A link leaves its chain and comes after another.
 pub fn move_moves()
     ensures { MoveMoves }
 {}
 
-/// States that a link moved away, and back to where it was, leaves all as it was.
+/// A move there and back changes nothing.
 pub fn move_back_restores()
     ensures { MoveBackRestores }
 {}

@@ -2,32 +2,29 @@
 
 ghost use Rattle.chain_laws.specs.Removals.{RemovalAgrees, RemovalRelinks, RemovalInPairs, RemovalIsDetermined, RemovalLeavesEachWithout, RemovalIsDeterminedByPairs, RemovalOfLoneRestores};
 
-/// States that a removal keeps the arena well linked.
+/// Removals keep links well linked.
 pub fn removal_agrees()
     ensures { RemovalAgrees }
 {}
 
-/// States that an index leaves its chain, which stays linear or cyclic; other chains stay.
-///
-/// A chain of that index alone is gone.
+/// An index leaves its chain, gone if empty.
 pub fn removal_relinks()
     ensures { RemovalRelinks }
 {}
 
-/// States that a removal drops all pairs with the index, and pairs the links on its two sides.
+/// A removal pairs the links beside the index.
 pub fn removal_in_pairs()
     ensures { RemovalInPairs }
 {}
 
-/// States that `Removes`, or `RemovesPairs` with a well-linked result, gives exactly the old chains
-/// without the index.
+/// `Removes`, or well-linked `RemovesPairs`, determines a removal.
 pub fn removal_is_determined()
     ensures by_chains { RemovalIsDetermined }
     ensures each { RemovalLeavesEachWithout }
     ensures by_pairs { RemovalIsDeterminedByPairs }
 {}
 
-/// States that removing a lone link just added restores the interlinks.
+/// Removing a lone link just added undoes that.
 pub fn removal_of_lone_restores()
     ensures { RemovalOfLoneRestores }
 {}

@@ -1,18 +1,18 @@
-//! Laws of moves of a run of links to the place after another link.
+//! Laws of moves of a run.
 
 ghost use Rattle.chain_laws.specs.Splices.{SpliceAgrees, SpliceSplices, SpliceBackRestores};
 
-/// States that a move of a run keeps the arena well linked.
+/// Moves of a run keep links well linked.
 pub fn splice_agrees()
     ensures { SpliceAgrees }
 {}
 
-/// States that a run leaves its chain and comes after another link; other chains stay.
+/// A run leaves its chain and comes after another link.
 pub fn splice_splices()
     ensures { SpliceSplices }
 {}
 
-/// States that a run moved away, and back to where it was, leaves all as it was.
+/// A run moved there and back changes nothing.
 pub fn splice_back_restores()
     ensures { SpliceBackRestores }
 {}

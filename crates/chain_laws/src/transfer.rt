@@ -1,11 +1,9 @@
-//! Laws of chains found by least index, and moved to runs in another arena.
+//! Laws of transfers of chains.
 
 ghost use Rattle.chain_laws.specs.ChainStart.{WalkBackBegins, WalkBackContinues, WalkBackEnds, WalkBackIsCyclic, WalkBackIsShort, WalkOnBegins, WalkOnContinues, WalksMeet, LeastIsNext};
 ghost use Rattle.chain_laws.specs.Transfer.{FirstIsTaken, LastIsAppended};
 
-/// States that following `prev` finds the start of a linear chain, or returns to where it began.
-///
-/// It takes fewer steps than there are links.
+/// Following `prev` finds the start, or returns, in fewer steps than links.
 pub fn walk_back_finds_the_start()
     ensures begins { WalkBackBegins }
     ensures continues { WalkBackContinues }
@@ -14,25 +12,24 @@ pub fn walk_back_finds_the_start()
     ensures is_short { WalkBackIsShort }
 {}
 
-/// States that a walk back by `prev` and a walk onward by `next` from one link meet only in a
-/// cyclic chain.
+/// Walks back and on from a link meet only in a cycle.
 pub fn walks_meet_in_a_cycle()
     ensures begins { WalkOnBegins }
     ensures continues { WalkOnContinues }
     ensures meet { WalksMeet }
 {}
 
-/// States that the chain of the link with the least index is next in order.
+/// The chain of the least index is next.
 pub fn least_is_next()
     ensures { LeastIsNext }
 {}
 
-/// States that removing the first link of a chain leaves its rest and every other chain.
+/// Removing its first link leaves a chain's rest.
 pub fn first_is_taken()
     ensures { FirstIsTaken }
 {}
 
-/// States that a new link at the end of the last chain extends its run; other chains stay.
+/// A new link at the last end extends its run.
 pub fn last_is_appended()
     ensures { LastIsAppended }
 {}

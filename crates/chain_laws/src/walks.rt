@@ -1,40 +1,38 @@
-//! Laws of walks from a link through its chain.
+//! Laws of walks.
 
 ghost use Rattle.chain_laws.specs.Walks.{WalksAhead, StepsPass, HasNoOtherWalk, PassesEachOnce, PassesTheChain, RemovalLeavesTheWalk, WalkIsTaken};
 
-/// States that a walker passes a walk: by `next` to the end and by `prev` from its start, or once
-/// around.
+/// A walker passes a walk.
 pub fn walker_passes_the_walk()
     ensures { WalksAhead }
 {}
 
-/// States that a walker passes what its steps pass.
+/// A walker passes what its steps pass.
 pub fn walker_moves_by_steps()
     ensures { StepsPass }
 {}
 
-/// States that there is only one walk from a link.
+/// A link has only one walk.
 pub fn one_walk()
     ensures { HasNoOtherWalk }
 {}
 
-/// States that a walk passes no link twice.
+/// A walk passes no link twice.
 pub fn walk_passes_each_once()
     ensures { PassesEachOnce }
 {}
 
-/// States that a walk passes the links of its chain and no others.
+/// A walk passes exactly its chain.
 pub fn walk_passes_the_chain()
     ensures { PassesTheChain }
 {}
 
-/// States that the rest of a walk, its first link removed, is the walk from the next or else the
-/// previous link.
+/// A walk without its first link starts at the next, else the previous.
 pub fn removal_leaves_the_walk()
     ensures { RemovalLeavesTheWalk }
 {}
 
-/// States that removing the links of a walk one by one leaves exactly the other chains.
+/// Removing the links of a walk leaves exactly the other chains.
 pub fn walk_is_taken()
     ensures { WalkIsTaken }
 {}

@@ -1,29 +1,28 @@
-//! Laws of walks from a link backwards through its chain.
+//! Laws of walks back.
 
 ghost use Rattle.chain_laws.specs.WalksBack.{WalksBackAhead, HasNoOtherWalkBack, BackPassesEachOnce, BackPassesTheChain, CyclicWalkBackIsReversed};
 
-/// States that a walker passes a walk back: by `prev` to the start and by `prev` from the end, or
-/// once around.
+/// A walker passes a walk back.
 pub fn walker_passes_the_walk_back()
     ensures { WalksBackAhead }
 {}
 
-/// States that there is only one walk back from a link.
+/// A link has only one walk back.
 pub fn one_walk_back()
     ensures { HasNoOtherWalkBack }
 {}
 
-/// States that a walk back passes no link twice.
+/// A walk back passes no link twice.
 pub fn walk_back_passes_each_once()
     ensures { BackPassesEachOnce }
 {}
 
-/// States that a walk back passes the links of its chain and no others.
+/// A walk back passes exactly its chain.
 pub fn walk_back_passes_the_chain()
     ensures { BackPassesTheChain }
 {}
 
-/// States that in a cyclic chain a walk back is its link, and then the rest of the walk in reverse.
+/// In a cycle, a walk back is its link, then the walk reversed.
 pub fn cyclic_walk_back_is_reversed()
     ensures { CyclicWalkBackIsReversed }
 {}

@@ -35,7 +35,6 @@ keys-written {Gen} {T} i t (e ∷ es) = ⊎_elim
 
 module _ {A Gen T : Type 0} {view : A → ArenaView Gen T} {entry : A → ℕ → Option (Gen × T)} (state : (a : A) → ArenaState (view a) (entry a)) (interlinks : A → LinkMap)
     {F P : Type 0} (g : Mut F (P × (MutBor T × Unit {0})) (Unit {0} × (MutBor T × Unit {0}))) (key : P → ℕ × Gen) where
-  -- The links visited so far, and those ahead, are the whole walk.
   pub record IsVisiting (first : F) (old : A) (whole : List ℕ) (f : F) (now : A) (ahead : List ℕ) : Type 0 where
     pub visits : List (LinkVisit P T)
     pub in_turn : FoldsTo (IsLinkVisit g) first visits f
@@ -50,7 +49,6 @@ module _ {A Gen T : Type 0} {view : A → ArenaView Gen T} {entry : A → ℕ �
   pub visiting_begins : (first : F) (old : A) (whole : List ℕ) → IsVisiting first old whole first old whole
   visiting_begins first old whole = record { visits = []; in_turn = refl; parts = refl; before = refl; after = refl; rest = λ i has_not. refl; links = refl; pointers = refl; view_after = refl }
 
-  -- The next link is visited.
   module _ (first : F) (old : A) (whole : List ℕ) (once : AreDistinct whole) (f : F) (now : A) (ahead : List ℕ) (is : IsVisiting first old whole f now ahead)
       (v : LinkVisit P T) (next : F) (new : A) (left : List ℕ) (step : ahead ≡ (key v.ptr).0 ∷ left) (visit : IsLinkVisit g f v next)
       (stored : entry now (key v.ptr).0 ≡ Some ((key v.ptr).1, v.value)) (written : view new ≡ view_with_value (view now) (key v.ptr).0 v.left) (same_links : interlinks new ≡ interlinks now) where
@@ -109,11 +107,8 @@ module _ {A Gen T : Type 0} {view : A → ArenaView Gen T} {entry : A → ℕ �
         view_after = is.view_after;
       }
 
--- What each call does to a value, it does to the value of each link of the walk. `Keeps` holds of
--- the closure's state before and after each call, as what it captured.
 module _ {F P T Gen : Type 0} (g : Mut F (P × (MutBor T × Unit {0})) (Unit {0} × (MutBor T × Unit {0}))) (key : P → ℕ × Gen) (Keeps : F → Type 0) (Writes : T → T → Type 0)
     (each : (f : F) (v : LinkVisit P T) (next : F) → Keeps f → IsLinkVisit g f v next → Writes v.value v.left × Keeps next) (old new : ℕ → Option (Gen × T)) where
-  -- The entry at i keeps its generation, and its value is written.
   pub record IsWrittenAt (i : ℕ) : Type 0 where
     pub generation : Gen
     pub value : T

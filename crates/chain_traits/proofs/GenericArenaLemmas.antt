@@ -34,7 +34,6 @@ module _ {Gen T : Type 0} where
     by true same some rest = omega (arith, ascends.0, eqb-true e.0.0 j same)
     by false other some rest = omega (arith, ascends.0, rest some)
 
-  -- An entry of the least index.
   pub record IsLeast (es : List ((ℕ × Gen) × T)) (i : ℕ) : Type 0 where
     pub stored : is_some (found i es) ≡ true
     pub low : (j : ℕ) → is_some (found j es) ≡ true → i ≤ j

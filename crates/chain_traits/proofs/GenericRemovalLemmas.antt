@@ -27,7 +27,6 @@ pub same_entry : {A Gen T : Type 0} {view : A → ArenaView Gen T} {entry : A �
 same_entry state a b same = λ k i. (sym ((state b).finds i) ∙ (ap (found i) same ∙ (state a).finds i)) k
 
 module _ {A Gen T : Type 0} {view : A → ArenaView Gen T} {entry : A → ℕ → Option (Gen × T)} (state : (a : A) → ArenaState (view a) (entry a)) (links : A → LinkMap) where
-  -- The entry of a pointer existed and is gone.
   pub record HasGone (following : Gen → Gen) (old new : A) (p : ℕ × Gen) : Type 0 where
     pub was_stored : IsValid (entry old) p
     pub gone : entry new p.0 ≡ None
@@ -37,7 +36,6 @@ module _ {A Gen T : Type 0} {view : A → ArenaView Gen T} {entry : A → ℕ �
     pub one_fewer : count (view old) ≡ count (view new) + 1
     pub view_after : view new ≡ view_after_removal following (view old) p.0
 
-  -- A removal returns a pointer's value and removes its entry, or changes nothing.
   pub record TakesEntry (following : Gen → Gen) (old new : A) (p : ℕ × Gen) (o : Option T) : Type 0 where
     pub valid : IsValid (entry old) p → is_some o ≡ true
     pub value : (v : IsValid (entry old) p) → o ≡ Some v.value
@@ -70,7 +68,6 @@ module _ {A Gen T : Type 0} {view : A → ArenaView Gen T} {entry : A → ℕ �
     removal (Success t) removed same passed = taken t removed.1 passed
     removal (GenerationOverflow t) removed same passed = taken t removed.1 passed
 
-  -- Consequences of a removal, whichever it returns.
   module _ (following : Gen → Gen) (old new : A) (p : ℕ × Gen) where
     pub value_known : (o : Option T) → TakesEntry following old new p o → IfSome o (λ t. entry old p.0 ≡ Some (p.1, t))
     value_known None r = tt

@@ -41,7 +41,6 @@ pub tested_all : {Gen T P : Type 0} (entry : ℕ → Option (Gen × T)) (key : P
 tested_all entry key whole before followers i end same valid =
     same.0 (subst (λ l. CanPutInOrder entry (map key (before ∷ l))) (sym (at_drop_all (λ l. l) followers i end)) (arrange_one entry (key before) valid))
 
--- A test whether two indexes are equal.
 module _ {I : Type 0} (number : I → ℕ) (i j : I) (result test : Bool) (m n : ℕ) (tests : (test ≡ true) ↔ (i ≡ j)) (is : result ≡ test) (at_i : number i ≡ m) (at_j : number j ≡ n) where
   pub are_same : result ≡ true → m ≡ n
   are_same is_true = sym at_i ∙ ap number (tests.0 (sym is ∙ is_true)) ∙ at_j
@@ -52,7 +51,6 @@ module _ {I : Type 0} (number : I → ℕ) (i j : I) (result test : Bool) (m n :
       not_both : (b : Bool) → b ≡ true → b ≡ false → ⊥
       not_both b e f = cc
 
--- Pointers tested one after another.
 module _ {Gen T P : Type 0} (entry : ℕ → Option (Gen × T)) (key : P → ℕ × Gen) (whole : Type 0) (before q : P) (followers : List P) (i : ℕ) (low : i < length followers) (is : q ≡ get_or followers i q)
     (same : CanPutInOrder entry (map key (before ∷ drop i followers)) ↔ whole) where
   here : map key (before ∷ drop i followers) ≡ key before ∷ key q ∷ map key (drop (i + 1) followers)
@@ -75,13 +73,11 @@ same_order entry other order same can = record {
   apart = can.apart;
 }
 
--- Links moved one after another.
 module _ {A Gen T P : Type 0} {view : A → ArenaView Gen T} {entry : A → ℕ → Option (Gen × T)} (state : (a : A) → ArenaState (view a) (entry a)) (interlinks : A → LinkMap) (key : P → ℕ × Gen)
     (moves : A → P → P → A → Type 0) where
   abbrev pub index : P → ℕ
   index p = (key p).0
 
-  -- The followers left are still to be moved.
   pub record IsPutting (start now : A) (first before : P) (followers left : List P) : Type 0 where
     pub same_view : view now ≡ view start
     pub can : CanPutInOrder (entry now) (map key (before ∷ left))

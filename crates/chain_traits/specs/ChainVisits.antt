@@ -1,4 +1,4 @@
--- The links of a chain, visited by a closure that writes their values.
+-- Visits of the links of a chain by a closure that writes values.
 use Rattle.std.specs.Prelude.{◌≡◌, ℕ, List, map, Option, None, Some}
 use Rattle.std.specs.List.{FoldsTo}
 use Rattle.std.specs.Fn.{Mut, Called}
@@ -8,7 +8,7 @@ use Rattle.arena_traits.specs.Entries.{ArenaView, ArenaState}
 use Rattle.chain_laws.specs.Chains.{LinkMap, IsMember}
 use Rattle.chain_laws.specs.Walks.{IsWalk}
 
--- A call of the closure: the pointer, the value passed, and the value left.
+-- The pointer, the value passed, and the value left.
 pub record LinkVisit (P T : Type 0) : Type 0 where
   pub ptr : P
   pub value : T
@@ -24,8 +24,7 @@ module _ {F P T : Type 0} (g : Mut F (P × (MutBor T × Unit {0})) (Unit {0} × 
     pub leaves : back.now ≡ visit.left
 
   module _ {Gen : Type 0} (key : P → ℕ × Gen) where
-    -- The closure visits each link of the walk once, in order. Each link has the value that was
-    -- left, and every other entry is unchanged.
+    -- The closure visits each link of the walk once, in order; every other entry stays.
     pub record VisitsWalk (f : F) (old new : ℕ → Option (Gen × T)) (walk : List ℕ) : Type 0 where
       pub visits : List (LinkVisit P T)
       pub last : F
@@ -37,7 +36,7 @@ module _ {F P T : Type 0} (g : Mut F (P × (MutBor T × Unit {0})) (Unit {0} × 
 
 module _ {A Gen T : Type 0} {view : A → ArenaView Gen T} {entry : A → ℕ → Option (Gen × T)} (state : (a : A) → ArenaState (view a) (entry a)) (interlinks : A → LinkMap)
     {F P : Type 0} (g : Mut F (P × (MutBor T × Unit {0})) (Unit {0} × (MutBor T × Unit {0}))) (key : P → ℕ × Gen) where
-  -- The closure visits the chain of the link at i, in walk order. Only values change.
+  -- The closure visits the chain of i in walk order; only values change.
   pub record IsChainVisited (f : F) (old : A) (i : ℕ) (new : A) : Type 0 where
     pub walk : List ℕ
     pub is_walk : IsWalk (interlinks old) i walk

@@ -5,13 +5,12 @@ use Rattle.arena_traits.specs.Entries.{ArenaView, index_of}
 use Rattle.arena_traits.specs.Compressions.{values_in}
 use Rattle.chain_links.specs.CanonicalLayouts.{IsCanonicalLayout}
 
--- Each link keeps its index, its value and its interlinks.
+-- Each link keeps its index, value and interlinks.
 pub record MovesNothing {Gen T : Type 0} (old : ArenaView Gen T) (old_links : LinkMap) (new : ArenaView Gen T) (new_links : LinkMap) : Type 0 where
   pub indexes : map index_of new.entries ≡ map index_of old.entries
   pub values : values_in new.entries ≡ values_in old.entries
   pub links : new_links ≡ old_links
 
--- A canonical compression of a canonically compressed arena moves nothing.
 abbrev pub SecondCompressionMovesNothing : Type 0 → Type 0 → Type 0
 SecondCompressionMovesNothing Gen T = (first : Gen) (following : Gen → Gen) (reset again : Bool)
     (old mid new : ArenaView Gen T) (old_links mid_links new_links : LinkMap)

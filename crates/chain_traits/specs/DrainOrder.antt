@@ -1,4 +1,4 @@
--- The order in which the links of an arena are drained, and what the removal of each returns.
+-- The order in which the links of an arena are drained.
 use Rattle.std.specs.Prelude.{◌≡◌, ◌≢◌, ℕ, [], ◌+◌, ◌≤◌, Bool, Option, None, Some, IfSome, IfNone, is_some, IsSome}
 use Rattle.arena_core.specs.Invalidation.{value_in, is_overflow}
 use Rattle.arena_core.specs.declared.invalidation.InvalidationOption.{InvalidationOption}
@@ -10,9 +10,8 @@ use Rattle.arena_traits.specs.Entries.{ArenaView, found, view_after_removal, Asc
 use Rattle.arena_traits.specs.declared.cursor.Cursor.{Cursor}
 use Rattle.arena_traits.specs.declared.cursor.Cursor.TheVariants.{Up}
 
--- The next chain is that of the link of least index. `here` is its start if it is linear, and that
--- link if it is cyclic; `ring` is whether it is cyclic. The advancer goes on behind the link of
--- least index.
+-- The next chain, of the least index, is written from `here`, is cyclic if `ring`, and `after` is
+-- behind that index.
 pub record IsNextChain {Gen T : Type 0} (source : ArenaView Gen T) (interlinks : LinkMap) (here : ℕ) (ring : Bool) (after : Cursor) : Type 0 where
   pub least : ℕ
   pub stored : IsSome (found least source.entries)
@@ -22,14 +21,14 @@ pub record IsNextChain {Gen T : Type 0} (source : ArenaView Gen T) (interlinks :
   pub cursor : after ≡ Up (least + 1)
 
 module _ {Gen T : Type 0} (entry : ℕ → Option (Gen × T)) where
-  -- A link is stored at `here`, and the chain of the link at i is written from there.
+  -- `here` has a link, from which the chain of i is written.
   abbrev pub IsStoredStart : LinkMap → (i here : ℕ) → Type 0
   IsStoredStart interlinks i here = record {
     start : IsStart interlinks i here;
     some : IsSome (entry here);
   }
 
-  -- A link is stored at `here`, from which the next chain is written.
+  -- `here` has a link, from which the next chain is written.
   abbrev pub IsStoredNextChain : ArenaView Gen T → LinkMap → ℕ → Bool → Cursor → Type 0
   IsStoredNextChain source interlinks here ring after = record {
     next : IsNextChain source interlinks here ring after;
@@ -37,7 +36,7 @@ module _ {Gen T : Type 0} (entry : ℕ → Option (Gen × T)) where
   }
 
 module _ {Gen T : Type 0} (source : ArenaView Gen T) (interlinks : LinkMap) where
-  -- The links are well linked, there are some, and none is behind the cursor.
+  -- The links are well linked; there are some, none behind the cursor.
   abbrev pub HasNextChain : Cursor → Type 0
   HasNextChain cursor = record {
     agree : IsWellLinked interlinks;
@@ -46,8 +45,7 @@ module _ {Gen T : Type 0} (source : ArenaView Gen T) (interlinks : LinkMap) wher
   }
 
   module _ {Index : Type 0} (number : Index → ℕ) where
-    -- The links are well linked. A link is stored at `on`; if that is `None`, there is a next
-    -- chain.
+    -- The links are well linked; there is one at `on`, or a next chain if that is `None`.
     abbrev pub CanTakeNext : (ℕ → Option (Gen × T)) → Option Index → Cursor → Type 0
     CanTakeNext entry on cursor = record {
       agree : IsWellLinked interlinks;
@@ -56,8 +54,7 @@ module _ {Gen T : Type 0} (source : ArenaView Gen T) (interlinks : LinkMap) wher
       stored : IfSome on (λ i. IsSome (entry (number i)));
     }
 
-    -- The next link is the one at `on`, and the advancer stays. If `on` is `None`, it is the first
-    -- link of the next chain.
+    -- The next link is the one at `on`, or if `None`, the first of the next chain.
     abbrev pub IsNextLink : Option Index → Bool → Cursor → ℕ → Bool → Cursor → Type 0
     IsNextLink on ring before here is_cyclic after = record {
       continues : IfSome on (λ i. (here ≡ number i) × (is_cyclic ≡ ring) × (after ≡ before));
@@ -65,8 +62,7 @@ module _ {Gen T : Type 0} (source : ArenaView Gen T) (interlinks : LinkMap) wher
     }
 
 module _ {Gen T : Type 0} (following : Gen → Gen) (wraps : Gen → Bool) (entry : ℕ → Option (Gen × T)) (old new : ArenaView Gen T) (interlinks interlinks_after : LinkMap) where
-  -- The link at i was removed. Its generation and value were these, and `next` is the index of the
-  -- link after it, unless that is itself.
+  -- The link at i was removed; `next` is the index of the one after it, unless itself.
   abbrev pub TakesLink : ℕ → Gen → InvalidationOption T → Option ℕ → Type 0
   TakesLink i generation value next = record {
     was_stored : entry i ≡ Some (generation, value_in value);

@@ -1,4 +1,3 @@
-// Puts links of any arena of links in a given order.
 ghost use Rattle.std.specs.Prelude.{◌≡◌, ◌↔◌, ◌∷◌, map, IsTrue};
 ghost use Rattle.arena_traits.specs.Arena.{IsValid};
 ghost use Rattle.chain_laws.specs.Orders.{with_followers, with_order};
@@ -8,7 +7,6 @@ ghost use Rattle.chain_links.specs.ChainArena.{CanPutInOrder};
 use crate::chain_traits::ChainArenaTrait;
 use arena_ptr::{InxKey, PtrKey};
 
-// Returns whether each follower is valid, and at another index than the pointer before it.
 fn can_follow<P: PtrKey, T: Drop, A: ChainArenaTrait<P, T>>(
     arena: &A,
     first: P,
@@ -28,7 +26,6 @@ fn can_follow<P: PtrKey, T: Drop, A: ChainArenaTrait<P, T>>(
     true
 }
 
-// Returns whether all pointers are valid, and none is at the index of the one after it.
 pub fn can_arrange<P: PtrKey, T: Drop, A: ChainArenaTrait<P, T>>(arena: &A, order: &[P]) -> bool
     ensures { IsTrue result ↔ CanPutInOrder (A.entry arena.now) (map P.key order.now) }
 {
@@ -38,7 +35,6 @@ pub fn can_arrange<P: PtrKey, T: Drop, A: ChainArenaTrait<P, T>>(arena: &A, orde
     }
 }
 
-// Moves each follower after the pointer before it.
 fn move_followers<P: PtrKey, T: Drop, A: ChainArenaTrait<P, T>>(
     arena: &mut A,
     first: P,
@@ -57,7 +53,6 @@ fn move_followers<P: PtrKey, T: Drop, A: ChainArenaTrait<P, T>>(
     }
 }
 
-// Puts links in an order.
 pub fn move_in_turn<P: PtrKey, T: Drop, A: ChainArenaTrait<P, T>>(arena: &mut A, order: &[P])
     requires { CanPutInOrder (A.entry arena.old) (map P.key order.now) }
     ensures links { A.interlinks arena.new ≡ with_order (A.interlinks arena.old)

@@ -21,29 +21,19 @@ use arena_ptr::{
 use arena_traits::{Advancer, ArenaTrait};
 use chain_links::{Link, LinkInsertKind, LinkNoGen};
 
-/// An arena whose entries are links, each in one linear or cyclic chain.
-///
-/// The calls of `ArenaTrait` see only the values. Of these calls, only removals, compressions and
-/// `clear` change chains: a removal links the neighbors, a compression renumbers all links, and
-/// `clear` leaves no chain.
+/// An arena whose entries are links in chains.
 ///
 /// Port of `triple_arena::ChainArenaTrait`.
 pub trait ChainArenaTrait<P: PtrKey, T: Drop>: ArenaTrait<P, T> {
     /// An advancer along one chain.
     type ChainPtrAdvancer: Advancer<Self, Item = P>;
 
-    // The interlinks of the link at each index.
     ghost interlinks: { Self → LinkMap };
 
-    // The position of an advancer along a chain, and the most steps that it still makes.
     ghost walker: { Self.ChainPtrAdvancer → Walker };
 
-    // What an implementation knows besides of an insertion: the arena before, the kind, the value,
-    // the arena after, and the pointer.
     ghost inserts: { Self → InsertKind P P.Inx → T → Self → P → Type 0 } = { λ _ _ _ _ _. ⊤ };
 
-    // What it knows besides of the arenas before and after `connect`, `break_prev`, `break_next`,
-    // `exchange_next`, `reverse_chain`, `move_after`, `splice_after` and `compress_canonical`.
     ghost connects: { Self → P → P → Self → Type 0 } = { λ _ _ _ _. ⊤ };
 
     ghost breaks_prev: { Self → P → Self → Type 0 } = { λ _ _ _. ⊤ };
@@ -60,20 +50,14 @@ pub trait ChainArenaTrait<P: PtrKey, T: Drop>: ArenaTrait<P, T> {
 
     ghost compresses_canonically: { Self → Self → Type 0 } = { λ _ _. ⊤ };
 
-    /// States that the interlinks agree: j follows i exactly if i precedes j.
-    ///
-    /// Has no effect; a function calls it where its proof needs this and no other call has stated
-    /// it.
+    /// States that links are well linked.
     final fn agrees(&self)
         ensures { IsWellLinked (interlinks self.now) }
     {
         self.get_inx_link_no_gen(P::invalid().inx());
     }
 
-    /// States what holds in every arena of links: the interlinks agree, and exactly one set of
-    /// chains has each link once.
-    ///
-    /// Has no effect.
+    /// States what holds in every such arena.
     final fn invariants(&self)
         ensures agree { IsWellLinked (interlinks self.now) }
         ensures one { HasOneSetOfChains (interlinks self.now) }
@@ -83,24 +67,19 @@ pub trait ChainArenaTrait<P: PtrKey, T: Drop>: ArenaTrait<P, T> {
         self.len();
     }
 
-    /// Returns whether a link of the given kind may be inserted: the requirement of the kind on the
-    /// links beside it is met.
+    /// Returns whether the kind's requirement is met.
     fn can_insert(&self, kind: LinkInsertKind<P>) -> bool
         ensures { IsTrue result ↔ MayInsertIn Self.state interlinks
             ⟦<P as AnyPointer>⟧.pointers self.now kind };
 
-    /// Inserts a link of the given kind within the capacity and returns its pointer.
-    ///
-    /// The generation of the pointer is the counter, which does not change. Does not allocate.
+    /// Inserts a link within the capacity.
     ///
     /// # Errors
     ///
-    /// In the order in which they are tested:
+    /// - `FailedLinkRequirement`: `can_insert` is false.
+    /// - `NotWithinCapacity`: the arena is full.
     ///
-    /// - `FailedLinkRequirement`: the requirement of `kind` is not met (`can_insert`).
-    /// - `NotWithinCapacity`: there are as many links as the capacity.
-    ///
-    /// On error the arena is unchanged, and `t` is dropped.
+    /// On error, nothing changes and `t` is dropped.
     ///
     /// Port of `ChainArenaTrait::insert_within_capacity`.
     fn insert_within_capacity(
@@ -113,20 +92,13 @@ pub trait ChainArenaTrait<P: PtrKey, T: Drop>: ArenaTrait<P, T> {
         ensures err { OnErr result (self.new ≡ self.old) }
         ensures implementation { IfOk result (inserts self.old kind t self.new) };
 
-    /// Inserts a link of the given kind and returns its pointer; a full arena grows first.
-    ///
-    /// The generation of the pointer is the counter, which does not change.
+    /// Inserts a link; a full arena grows first.
     ///
     /// # Errors
     ///
-    /// In the order in which they are tested:
-    ///
-    /// - `FailedLinkRequirement`: the requirement of `kind` is not met (`can_insert`).
-    /// - `BeyondMaxCapacity`: the arena is full, and one link more is above the maximum.
-    /// - `AllocError`: the arena is full, and one link more is above the greatest index, or an
-    ///   allocation failed.
-    ///
-    /// On error the arena is unchanged, and `t` is dropped.
+    /// - `FailedLinkRequirement`: `can_insert` is false.
+    /// - `BeyondMaxCapacity`: the arena is full at its maximum.
+    /// - `AllocError`: an allocation failed, or the greatest index is reached.
     ///
     /// Port of `ChainArenaTrait::insert_reallocating`.
     fn insert_reallocating(
@@ -139,17 +111,12 @@ pub trait ChainArenaTrait<P: PtrKey, T: Drop>: ArenaTrait<P, T> {
         ensures err { OnErr result (self.new ≡ self.old) }
         ensures implementation { IfOk result (inserts self.old kind t self.new) };
 
-    /// Inserts a link of a kind that may be inserted (`can_insert`), as `insert_reallocating` does.
+    /// Inserts a link of an allowed kind.
     ///
     /// # Errors
     ///
-    /// In the order in which they are tested:
-    ///
-    /// - `BeyondMaxCapacity`: the arena is full, and one link more is above the maximum.
-    /// - `AllocError`: the arena is full, and one link more is above the greatest index, or an
-    ///   allocation failed.
-    ///
-    /// On error the arena is unchanged, and `t` is dropped.
+    /// - `BeyondMaxCapacity`: the arena is full at its maximum.
+    /// - `AllocError`: an allocation failed, or the greatest index is reached.
     ///
     /// Port of `ChainArenaTrait::insert`.
     fn insert(&mut self, kind: LinkInsertKind<P>, t: T) -> Result<P, ReallocationError>
@@ -159,36 +126,34 @@ pub trait ChainArenaTrait<P: PtrKey, T: Drop>: ArenaTrait<P, T> {
         ensures err { OnErr result (self.new ≡ self.old) }
         ensures implementation { IfOk result (inserts self.old kind t self.new) };
 
-    /// Returns whether q follows p: both pointers are valid, and the next link of p is at the index
-    /// of q.
+    /// Returns whether both are valid and q follows p.
     ///
     /// Port of `ChainArenaTrait::are_neighbors`.
     fn are_neighbors(&self, p: P, q: P) -> bool
         ensures { IsTrue result ↔ AreNeighborLinks Self.state interlinks P.key self.now p q };
 
-    /// Returns whether the link after the link at index i is at index j.
+    /// Returns whether j follows i.
     ///
     /// Port of `ChainArenaTrait::are_neighbors_inx`.
     fn are_neighbors_inx(&self, i: P::Inx, j: P::Inx) -> bool
         ensures { IsTrue result ↔ AreNeighbors (interlinks self.now) (P.Inx.number i)
             (P.Inx.number j) };
 
-    /// Returns the link of `p`, with its neighbors as pointers of their current generations, or
-    /// `None` if `p` is not valid.
+    /// Returns a link with its neighbors' pointers; `None` if `p` is invalid.
     ///
     /// Port of `ChainArenaTrait::get_link`.
     fn get_link(&self, p: P) -> Option<Link<P, &T>>
         ensures outcome { ReadsLink Self.state interlinks P.key self.now p result }
         ensures agree { IsWellLinked (interlinks self.now) };
 
-    /// Returns the link of `p`, or `None` if `p` is not valid.
+    /// Returns a link; `None` if `p` is invalid.
     ///
     /// Port of `ChainArenaTrait::get_link_no_gen`.
     fn get_link_no_gen(&self, p: P) -> Option<&LinkNoGen<P, T>>
         ensures { ReadsLinkNoGen Self.state interlinks ⟦<P as AnyPointer>⟧.pointers self.now p
             result };
 
-    /// Returns the generation and the link at an index, or `None` if no link is there.
+    /// Returns a generation and link, or `None` if `i` is free.
     ///
     /// Port of `ChainArenaTrait::get_inx_link_no_gen`.
     fn get_inx_link_no_gen(&self, i: P::Inx) -> Option<(P::Gen, &LinkNoGen<P, T>)>
@@ -196,21 +161,14 @@ pub trait ChainArenaTrait<P: PtrKey, T: Drop>: ArenaTrait<P, T> {
             result }
         ensures agree { IsWellLinked (interlinks self.now) };
 
-    /// Returns an advancer along the chain of `p`, or `None` if `p` is not valid.
-    ///
-    /// It goes in walk order: from `p` to the end, then from the link before `p` back to the start;
-    /// a cyclic chain once around. It makes at most as many steps as there are links now, whatever
-    /// arenas it is passed.
+    /// Returns an advancer from `p` to the end and from the link before to the start, or once
+    /// around; `None` if `p` is invalid.
     ///
     /// Port of `ChainArenaTrait::advancer_chain`.
     fn advancer_chain(&self, p: P) -> Option<Self::ChainPtrAdvancer>
         ensures { StartsWalk Self.state interlinks P.key walker self.now p result };
 
-    /// Connects p to q, so that q follows p: two chains become one, or one chain becomes cyclic.
-    ///
-    /// If p is q, the link becomes a cyclic chain of its own. Returns `Some` exactly if both
-    /// pointers are valid, p has no next link and q no previous link. Otherwise returns `None` and
-    /// changes nothing.
+    /// Makes q follow p; `None` unless p is an end and q a start.
     ///
     /// Port of `ChainArenaTrait::connect`.
     fn connect(&mut self, p: P, q: P) -> Option<()>
@@ -218,11 +176,7 @@ pub trait ChainArenaTrait<P: PtrKey, T: Drop>: ArenaTrait<P, T> {
         ensures none { IfNone result (self.new ≡ self.old) }
         ensures implementation { OnSome result (connects self.old p q self.new) };
 
-    /// Disconnects a link from its previous link: a linear chain becomes two, a cyclic chain
-    /// linear.
-    ///
-    /// Returns `Some` exactly if `p` is valid and its link has a previous link. Otherwise returns
-    /// `None` and changes nothing.
+    /// Disconnects p from its previous link; `None` without one.
     ///
     /// Port of `ChainArenaTrait::break_prev`.
     fn break_prev(&mut self, p: P) -> Option<()>
@@ -230,10 +184,7 @@ pub trait ChainArenaTrait<P: PtrKey, T: Drop>: ArenaTrait<P, T> {
         ensures none { IfNone result (self.new ≡ self.old) }
         ensures implementation { OnSome result (breaks_prev self.old p self.new) };
 
-    /// Disconnects a link from its next link: a linear chain becomes two, a cyclic chain linear.
-    ///
-    /// Returns `Some` exactly if `p` is valid and its link has a next link. Otherwise returns
-    /// `None` and changes nothing.
+    /// Disconnects p from its next link; `None` without one.
     ///
     /// Port of `ChainArenaTrait::break_next`.
     fn break_next(&mut self, p: P) -> Option<()>
@@ -241,11 +192,7 @@ pub trait ChainArenaTrait<P: PtrKey, T: Drop>: ArenaTrait<P, T> {
         ensures none { IfNone result (self.new ≡ self.old) }
         ensures implementation { OnSome result (breaks_next self.old p self.new) };
 
-    /// Exchanges the next links of p and q.
-    ///
-    /// One chain becomes two, two become one, or two linear chains exchange what follows p and q.
-    /// If p is q, the chains stay as they are. Returns `Some` exactly if both pointers are valid
-    /// and both links have a next link. Otherwise returns `None` and changes nothing.
+    /// Exchanges the next links of p and q; `None` unless both have one.
     ///
     /// Port of `ChainArenaTrait::exchange_next`.
     fn exchange_next(&mut self, p: P, q: P) -> Option<()>
@@ -253,11 +200,7 @@ pub trait ChainArenaTrait<P: PtrKey, T: Drop>: ArenaTrait<P, T> {
         ensures none { IfNone result (self.new ≡ self.old) }
         ensures implementation { OnSome result (exchanges self.old p q self.new) };
 
-    /// Reverses the chain of a link: each of its links exchanges its previous and next links.
-    ///
-    /// A linear chain then starts with its former end, and a cyclic one goes around the other way.
-    /// Pointers and all other chains stay. Returns `Some` exactly if `p` is valid. Otherwise returns
-    /// `None` and changes nothing. Writes each link of the chain once.
+    /// Reverses a chain in O(n); `None` if `p` is invalid.
     ///
     /// # Examples
     ///
@@ -274,11 +217,7 @@ pub trait ChainArenaTrait<P: PtrKey, T: Drop>: ArenaTrait<P, T> {
         ensures none { IfNone result (self.new ≡ self.old) }
         ensures implementation { OnSome result (reverses self.old p self.new) };
 
-    /// Moves the link of p to the place after the link of q, of its own chain or of another.
-    ///
-    /// The rest of its former chain stays linear or cyclic, as after a removal; so does the chain
-    /// of q, as after an insertion. The pointer and the value of p stay. Returns `Some` exactly if
-    /// both pointers are valid and p is not q. Otherwise returns `None` and changes nothing.
+    /// Moves p after q; `None` unless both are valid and distinct.
     ///
     /// # Examples
     ///
@@ -295,15 +234,9 @@ pub trait ChainArenaTrait<P: PtrKey, T: Drop>: ArenaTrait<P, T> {
         ensures none { IfNone result (self.new ≡ self.old) }
         ensures implementation { OnSome result (moves self.old p q self.new) };
 
-    /// Moves the run of links from `first` to `last` to the place after the link of p, in O(1).
+    /// Moves a run after p in O(1); `None` if a pointer is invalid or p is `last`.
     ///
-    /// The rest of the run's former chain stays linear or cyclic, and so does the chain of p, which
-    /// may be the same chain. Pointers and values stay. Returns `Some` exactly if the three
-    /// pointers are valid and p is not `last`. Otherwise returns `None` and changes nothing.
-    ///
-    /// `splice_after` does not detect that `first` to `last` is no run of one chain, or that p is in
-    /// the run: this needs an O(n) walk. The interlinks are then still those of `with_splice`, so
-    /// each link is still in one linear or cyclic chain.
+    /// A run that is none, or has p, is not detected; the links stay well linked.
     ///
     /// # Examples
     ///
@@ -322,19 +255,7 @@ pub trait ChainArenaTrait<P: PtrKey, T: Drop>: ArenaTrait<P, T> {
         ensures none { IfNone result (self.new ≡ self.old) }
         ensures implementation { OnSome result (splices self.old p first last self.new) };
 
-    /// Moves links so that they follow the first of `order` in that order, each directly after the
-    /// one before it.
-    ///
-    /// If `order` has each link of one chain once, this arranges the chain: a linear chain then
-    /// starts with the first, and a cyclic one stays cyclic. Links of other chains in `order` leave
-    /// their chains, which stay linear or cyclic. All other links stay in their order. Pointers and
-    /// values stay. Does not allocate.
-    ///
-    /// Returns `Some` exactly if all pointers are valid and none is equal to the one after it.
-    /// Otherwise returns `None` and changes nothing.
-    ///
-    /// `arrange_chain` does not detect that `order` has a link twice with others between. It then
-    /// moves this link twice, and the interlinks are still those of `with_order`.
+    /// Moves links to follow the first in order; `None` if a pointer is invalid or equals the next.
     ///
     /// # Examples
     ///
@@ -364,11 +285,8 @@ pub trait ChainArenaTrait<P: PtrKey, T: Drop>: ArenaTrait<P, T> {
         Some(())
     }
 
-    /// Removes a link and returns it with the interlinks that it had, without their generations.
-    ///
-    /// Links its neighbors, so that the rest of its chain stays linear or cyclic, and increments
-    /// the counter. If that wraps to two, the link is removed and returned in
-    /// `GenerationOverflow`. Returns `InvalidPtr` if `p` is not valid; nothing changes then.
+    /// Removes a link and links its neighbors; `InvalidPtr` if `p` is invalid, `GenerationOverflow`
+    /// if the counter wrapped.
     ///
     /// Port of `ChainArenaTrait::remove_link_no_gen`.
     fn remove_link_no_gen(&mut self, p: P) -> InvalidationResult<LinkNoGen<P, T>>
@@ -378,12 +296,7 @@ pub trait ChainArenaTrait<P: PtrKey, T: Drop>: ArenaTrait<P, T> {
         ensures implementation { OnSome (value_within result)
             (Self.removes self.old (P.key p).0 self.new) };
 
-    /// Removes the link at an index and returns the link's generation, and the link with the
-    /// interlinks that it had, without their generations.
-    ///
-    /// Links its neighbors, so that the rest of its chain stays linear or cyclic, and increments
-    /// the counter. If that wraps to two, the link is removed and returned in
-    /// `GenerationOverflow`. Returns `InvalidPtr` if no link is there; nothing changes then.
+    /// Is `remove_link_no_gen` by index.
     ///
     /// Port of `ChainArenaTrait::remove_inx_link_no_gen`.
     fn remove_inx_link_no_gen(&mut self, i: P::Inx) -> InvalidationResult<(P::Gen, LinkNoGen<P, T>)>
@@ -393,15 +306,8 @@ pub trait ChainArenaTrait<P: PtrKey, T: Drop>: ArenaTrait<P, T> {
         ensures implementation { OnSome (value_within result)
             (Self.removes self.old (P.Inx.number i) self.new) };
 
-    /// Compacts the chains to the indexes from 1 on, each in one run of indexes in `next` order.
-    ///
-    /// The chains are in the order of their old least indexes, a linear chain from its start, a
-    /// cyclic chain from its least index. Each link keeps its value and neighbors, and has the new
-    /// counter as its generation. Each slot then has a link. The capacity stays. Does not allocate.
-    ///
-    /// With `reset` the counter begins anew, at two. Otherwise it is incremented if there are
-    /// links; if that wraps to two, the chains are compacted all the same, and `GenerationOverflow`
-    /// is returned.
+    /// Moves the chains, by least index, to runs from index 1 on, and increments the counter
+    /// (`GenerationOverflow`: it wrapped), or sets it to two if `reset`.
     ///
     /// Port of `ChainArenaTrait::compress_canonical`.
     fn compress_canonical(&mut self, reset: bool) -> InvalidationOption<()>
@@ -409,17 +315,13 @@ pub trait ChainArenaTrait<P: PtrKey, T: Drop>: ArenaTrait<P, T> {
             self.old reset result self.new }
         ensures implementation { compresses_canonically self.old self.new };
 
-    // A call of an advancer along a chain takes the next step of its walk, in the arena of that
-    // call, or ends the walk.
     ghost passes: { (a b : Self.ChainPtrAdvancer) (c : Self) (r : Option P)
         → Self.ChainPtrAdvancer.gives a c r b → IsPassing (Self.entry c) (interlinks c) (walker a)
         (option_map P.key r) (walker b) };
 
-    // A link exists exactly where an entry does.
     ghost links_are_entries: { (a : Self) (i : ℕ) → is_some (interlinks a i) ≡ is_some
         (Self.entry a i) };
 
-    // The effects of the calls of `ArenaTrait` on the chains.
     ghost growth_keeps: { (n : ℕ) (a b : Self) → Self.grows n a b → interlinks b ≡ interlinks a };
 
     ghost write_keeps: { (a b : Self) (i : ℕ) (t : T) → Self.writes a i t b

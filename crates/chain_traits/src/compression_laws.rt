@@ -1,10 +1,9 @@
-//! Laws of canonical compressions, for any arena of links.
+//! Laws of canonical compressions.
 ghost use Rattle.chain_traits.specs.CompressionLaws.{SecondCompressionMovesNothing};
 
 use arena_ptr::PtrKey;
 
-/// States that a second `compress_canonical` moves nothing: each link keeps its index, its value
-/// and its interlinks.
+/// A second `compress_canonical` moves and changes no link.
 pub fn second_compression_moves_nothing<P: PtrKey, T: Drop>()
     ensures { SecondCompressionMovesNothing P.Gen T }
 {}

@@ -1,4 +1,3 @@
-// Removes the links of any arena of links, chain by chain.
 ghost use Rattle.std.specs.Prelude.{◌≡◌, IsSome};
 ghost use Rattle.std.specs.Option.{option_map};
 ghost use Rattle.chain_laws.specs.Chains.{IsWellLinked, prev_of};
@@ -10,7 +9,6 @@ use arena_ptr::{InvalidationOption, InxKey, PtrKey};
 use arena_traits::Advancer;
 use chain_links::walk_direction::step_on;
 
-// Returns the index of the link before the link at `i`.
 fn before<Q: PtrKey, U: Drop, A: ChainArenaTrait<Q, U>>(source: &A, i: Q::Inx) -> Option<Q::Inx>
     ensures { option_map Q.Inx.number result ≡ prev_of (A.interlinks source.now) (Q.Inx.number i) }
 {
@@ -20,7 +18,6 @@ fn before<Q: PtrKey, U: Drop, A: ChainArenaTrait<Q, U>>(source: &A, i: Q::Inx) -
     }
 }
 
-// Returns the first link of the chain of `i`: its start if it is linear, and `i` if it is cyclic.
 fn start_of<Q: PtrKey, U: Drop, A: ChainArenaTrait<Q, U>>(source: &A, i: Q::Inx) -> Q::Inx
     requires agree { IsWellLinked (A.interlinks source.now) }
     requires some { IsSome (A.entry source.now (Q.Inx.number i)) }
@@ -42,7 +39,6 @@ fn start_of<Q: PtrKey, U: Drop, A: ChainArenaTrait<Q, U>>(source: &A, i: Q::Inx)
     proved_unreachable!()
 }
 
-// Returns the first link of the next chain of a source, and whether the chain is cyclic.
 fn next_chain<Q: PtrKey, U: Drop, A: ChainArenaTrait<Q, U>>(
     source: &A,
     advancer: &mut A::PtrAdvancer,
@@ -60,23 +56,17 @@ fn next_chain<Q: PtrKey, U: Drop, A: ChainArenaTrait<Q, U>>(
     }
 }
 
-/// A link that `take_next` removed from a source.
+/// A removed link.
 #[derive(Drop)]
 pub struct Taken<Q: PtrKey, U: Drop> {
-    /// The pointer that the link had.
     pub ptr: Q,
-    /// Its value. `GenerationOverflow`: the removal overflowed the counter of the source.
+    /// `GenerationOverflow`: the source's counter overflowed.
     pub value: InvalidationOption<U>,
-    /// The index of the next link in its chain, or `None` if there is none or it is the link
-    /// itself.
+    /// The next index in its chain, if another.
     pub next: Option<Q::Inx>,
-    /// Whether its chain is cyclic.
     pub is_cyclic: bool,
 }
 
-// Returns the index of the link to remove next, and whether its chain is cyclic.
-//
-// This is the link at `on`, or the first link of the next chain if that is `None`.
 fn next_link<Q: PtrKey, U: Drop, A: ChainArenaTrait<Q, U>>(
     source: &A,
     advancer: &mut A::PtrAdvancer,
@@ -95,10 +85,7 @@ fn next_link<Q: PtrKey, U: Drop, A: ChainArenaTrait<Q, U>>(
     }
 }
 
-/// Removes the next link from a source.
-///
-/// This is the link at `on`, whose chain is cyclic if `ring`. If `on` is `None`, it is the first
-/// link of the next chain.
+/// Removes the link at `on`, or else the first of the next chain.
 pub fn take_next<Q: PtrKey, U: Drop, A: ChainArenaTrait<Q, U>>(
     source: &mut A,
     advancer: &mut A::PtrAdvancer,
@@ -118,7 +105,6 @@ pub fn take_next<Q: PtrKey, U: Drop, A: ChainArenaTrait<Q, U>>(
     take_link(source, i, is_cyclic)
 }
 
-// Removes the link at an index, whose chain is cyclic if `is_cyclic`.
 fn take_link<Q: PtrKey, U: Drop, A: ChainArenaTrait<Q, U>>(
     source: &mut A,
     i: Q::Inx,

@@ -1,4 +1,4 @@
-//! The trait of arenas of links, and generic walks, drains and laws for any such arena.
+//! The trait of arenas of links, and generic code.
 #![tactic(auto)]
 
 mod arrange;

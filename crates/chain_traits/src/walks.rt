@@ -1,4 +1,4 @@
-//! Walks along one chain, in any arena of links.
+//! Walks along one chain.
 ghost use Rattle.std.specs.Prelude.{◌≡◌, ◌↔◌, IsSome, IfSome, IfNone, IfOk, All, map};
 ghost use Rattle.chain_laws.specs.Walks.{IsWalk, passes_ahead, walker_at};
 ghost use Rattle.arena_traits.specs.Arena.{IsValid};
@@ -10,12 +10,7 @@ use arena_ptr::{InxKey, PtrKey};
 use arena_traits::Advancer;
 use std::alloc::{AllocError, Global};
 
-/// States that an advancer along the chain of `p` passes the walk from `p`, while the arena stays
-/// the same.
-///
-/// Has no effect. Each `advance` takes one step of the advancer's walker. So the pointers that a
-/// loop has collected and `passes_ahead` of the walker are together the walk: the loop's invariant,
-/// as in `walk`.
+/// States that an advancer from `p` passes its walk in an unchanged arena.
 pub fn advancer_passes_the_walk<P: PtrKey, T: Drop, A: ChainArenaTrait<P, T>>(arena: &A, p: P)
     ensures { IsValid (A.entry arena.now) (P.key p) → IsWalk (A.interlinks arena.now) (P.key p).0
         (passes_ahead (A.interlinks arena.now)
@@ -24,10 +19,7 @@ pub fn advancer_passes_the_walk<P: PtrKey, T: Drop, A: ChainArenaTrait<P, T>>(ar
     arena.invariants();
 }
 
-/// Returns the pointers of the links of one chain, each once, or `None` if `p` is not valid.
-///
-/// They are in walk order: from `p` to the end, then from the link before `p` back to the start; a
-/// cyclic chain once around.
+/// Returns the chain of `p` in walk order; `None` if `p` is invalid.
 ///
 /// # Errors
 ///
@@ -55,12 +47,7 @@ pub fn walk<P: PtrKey, T: Drop, A: ChainArenaTrait<P, T>>(
     Ok(Some(ptrs))
 }
 
-/// Calls a closure with the pointer and the value of each link of one chain, to write the values.
-///
-/// It is called once for each link, in walk order: from `p` to the end, then from the link before
-/// `p` back to the start; a cyclic chain once around. Pointers, interlinks and the values of all
-/// other chains stay. Returns `Some` exactly if `p` is valid. Otherwise returns `None` and changes
-/// nothing. Does not allocate.
+/// Passes each value of a chain to a closure in walk order; `None` if `p` is invalid.
 ///
 /// # Examples
 ///

@@ -1,4 +1,4 @@
--- Lemmas on lists of chains: which chain has an index.
+-- Lists of chains: which chain has an index.
 use Rattle.std.proofs.Common.{◌≡◌, ℕ, ◌⊎◌, inl, inr, List, [], ◌∷◌, refl, sym, ◌∙◌, subst}
 use Rattle.chain_laws.specs.Chains.{LinkMap, HasLink, IsMember, AreDistinct, Chain, items, HasChain, all_items, IsChain}
 use Rattle.chain_laws.proofs.ListLemmas.Members.{IsMember-left, IsMember-right, IsMember-parts, AreDistinct-left, AreDistinct-right, AreDistinct-apart}

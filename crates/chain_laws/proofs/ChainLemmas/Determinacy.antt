@@ -1,4 +1,4 @@
--- Lemmas that chains determine the link map, and `Connects` and `AddsLone` the chains.
+-- Chains determine the link map, and `Connects` and `AddsLone` the chains.
 use Rattle.std.specs.Prelude.{◌≡◌, ℕ, ◌⊎◌, List, [], ◌∷◌, ◌++◌, Option, None, Some}
 use Rattle.std.proofs.Common.{sym, refl, ap, ◌∙◌, subst, inl, inr}
 use mathlib.Core.Path.{fun_ext}
@@ -39,7 +39,6 @@ chain_elsewhere left right (cyclic (x ∷ xs)) (cyclic ys) i c d there h k =
         let that : IsChain right (cyclic (x ∷ after ++ before)) = rotated right before (x ∷ after) (subst (λ (zs : List ℕ). IsChain right (cyclic zs)) e there) in
         subst (λ (zs : List ℕ). IsChain right (cyclic (x ∷ zs))) (sym (one_cyclic left x xs (after ++ before) c here)) that
 
--- `Holds` determines which chains have a and b.
 pub record NamesChains (Holds : LinkMap → Type 0) (a b : ℕ) : Type 0 where
   pub left : Chain
   pub right : Chain

@@ -1,4 +1,4 @@
--- Lemmas that a well-linked arena has chains.
+-- A well-linked arena has chains.
 use Rattle.std.proofs.Common.{◌≡◌, ◌≢◌, ℕ, zero, suc, ◌+◌, ◌<◌, ◌≤◌, ◌⊎◌, inl, inr, ⊎_elim, List, [], ◌∷◌, ◌++◌, length, Option, None, Some, refl, sym, ap, ◌∙◌, subst, length-append, arith}
 use Rattle.std.proofs.Math.Decide.{ℕ_discrete}
 use Rattle.chain_laws.specs.Chains.{LinkMap, Interlinks, HasLink, HasLinksWithin, IsWellLinked, IsMember, AreDistinct, Chain, linear, cyclic, items, last_or, prev_in, prev_of, next_of, AreLinked, IsChain, HasChain, all_items, StartsAtLeast, IsSortedByLeast, AreChains, IsInOrder}
@@ -8,16 +8,13 @@ use Rattle.chain_laws.proofs.ChainLemmas.Uniqueness.{chain_valid, chain_once, ch
 use Rattle.chain_laws.proofs.ChainLemmas.Rotations.{rotated_to}
 use Rattle.chain_laws.proofs.ChainLemmas.ChainLists.{IsMember-all_items, chain_at, all_items_valid}
 
--- The links after k: they end, or return to k.
 data Ending (link_map : LinkMap) (before : Option ℕ) (k : ℕ) : Type 0 where
   ends : (after : List ℕ) → AreLinked link_map before (k ∷ after) None → Ending link_map before k
   is_cyclic : (after : List ℕ) → AreLinked link_map before (k ∷ after) (Some k) → (IsMember after k → ⊥) → Ending link_map before k
 
--- A linked list with k, and nothing before or after it.
 data Beginning (link_map : LinkMap) (k : ℕ) : Type 0 where
   begins : (xs : List ℕ) → AreLinked link_map None xs None → IsMember xs k → Beginning link_map k
 
--- A chain with k in it.
 pub data ChainOf (link_map : LinkMap) (k : ℕ) : Type 0 where
   stored_in : (c : Chain) → IsChain link_map c → IsMember (items c) k → ChainOf link_map k
 
@@ -106,7 +103,6 @@ module _ (link_map : LinkMap) (slots : ℕ) (agrees : IsWellLinked link_map) (wi
           (IsMember-filled (k ∷ after) k (inl refl), apart_no_repetition link_map (prev_of link_map k) k after (Some k) s apart, ring after s)
           (inl refl)
 
-  -- A chain with k, from its least index if cyclic.
   data WrittenFrom (k : ℕ) : Type 0 where
     written_from : (c : Chain) → IsChain link_map c → IsMember (items c) k → StartsAtLeast c → WrittenFrom k
 
@@ -116,7 +112,6 @@ module _ (link_map : LinkMap) (slots : ℕ) (agrees : IsWellLinked link_map) (wi
       let t = rotated_to link_map xs k h m in
       written_from (cyclic (k ∷ t.0)) t.1 (inl refl) (IsMember-at_most k t.0 (λ y n. least (cyclic (k ∷ t.0)) y t.1 (inl refl) (inr n)))
 
-  -- The chains not among those done, by least index.
   record OtherChains (done : List Chain) : Type 0 where
     chains : List Chain
     each : (c : Chain) → HasChain chains c → IsChain link_map c

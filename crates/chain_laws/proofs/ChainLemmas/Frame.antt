@@ -1,4 +1,4 @@
--- Lemmas on chains that a change leaves alone.
+-- Chains that a change leaves alone.
 use Rattle.std.proofs.Common.{◌≡◌, ℕ, inl, inr, ⊎_elim, Option, None, Some, refl, sym, subst}
 use Rattle.chain_laws.specs.Chains.{LinkMap, Chain, items, IsMember, IsChain, IsWellLinked, prev_of, next_of}
 use Rattle.chain_laws.specs.Joins.{with_join}

@@ -1,9 +1,8 @@
--- Lemmas on linked lists: parts, concatenation, frame, closure, no repetition.
+-- Linked lists: parts, concatenation, frame, closure, no repetition.
 use Rattle.std.proofs.Common.{◌≡◌, ◌≢◌, ℕ, ◌+◌, ◌⊎◌, inl, inr, ⊎_elim, List, [], ◌∷◌, ◌++◌, length, Option, None, Some, refl, sym, ap, ◌∙◌, subst, length-append, arith}
 use Rattle.chain_laws.specs.Chains.{LinkMap, Interlinks, Chain, linear, cyclic, items, IsChain, HasLink, IsMember, AreDistinct, first_or, last_or, prev_in, next_in, prev_of, next_of, AreLinked}
 use Rattle.chain_laws.proofs.ListLemmas.Members.{IsMember-written, first_or-append, first_or-IsMember}
 
--- Interlinks with the given prev and next.
 abbrev pub link : Option ℕ → Option ℕ → Interlinks
 link before after = record { prev = before; next = after }
 

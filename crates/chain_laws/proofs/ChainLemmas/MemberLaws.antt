@@ -1,4 +1,4 @@
--- Lemmas on the items of a chain and their neighbors.
+-- The items of a chain and their neighbors.
 use Rattle.std.proofs.Common.{◌≡◌, ℕ, List, [], ◌∷◌, ◌++◌, length, length-append, arith, Option, None, Some, refl, sym, ap, ◌∙◌, subst, subst₂}
 use Rattle.chain_laws.specs.Chains.{linear, cyclic, IsMember, IsChain, AreLinked, first_or, last_or, prev_in, next_in, prev_of, next_of}
 use Rattle.chain_laws.specs.Members.{MembersAreLinks, FreeIsInNoChain, MembersNameNeighbors, PlacesInALine, PlacesInARing, LinesEnd, RingsAreCyclic}

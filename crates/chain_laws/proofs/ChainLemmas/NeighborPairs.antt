@@ -1,4 +1,4 @@
--- Lemmas on neighbor pairs in a list, in a chain, in all chains and in the arena.
+-- Neighbor pairs in a list, in a chain, in all chains and in the arena.
 use Rattle.std.proofs.Common.{◌≡◌, ◌≢◌, ◌↔◌, ℕ, inl, inr, ⊎_elim, List, [], ◌∷◌, ◌++◌, Option, None, Some, refl, sym, ap, ◌∙◌, subst, append_assoc}
 use Rattle.chain_laws.specs.Chains.{LinkMap, IsWellLinked, IsMember, AreDistinct, Chain, linear, cyclic, items, first_or, last_or, prev_in, next_in, prev_of, next_of, AreLinked, IsChain, HasChain, AreChains}
 use Rattle.chain_laws.specs.Neighbors.{IsBeside, AreNeighborsIn, Partition, HasInterlinks}
@@ -8,12 +8,10 @@ use Rattle.chain_laws.proofs.ChainLemmas.LinkedLists.{link, reports_both, next_v
 use Rattle.chain_laws.proofs.ChainLemmas.Uniqueness.{chain_once, chain_filled}
 use Rattle.chain_laws.proofs.ChainLemmas.ChainLists.{IsMember-all_items, chain_at, once_each, once_chain, all_items_valid}
 
--- What comes before the first item of a chain.
 abbrev pub before_first : Chain → Option ℕ
 before_first (linear xs) = None
 before_first (cyclic xs) = last_or xs None
 
--- What comes after the last item of a chain.
 abbrev pub after_last : Chain → Option ℕ
 after_last (linear xs) = None
 after_last (cyclic xs) = first_or xs None

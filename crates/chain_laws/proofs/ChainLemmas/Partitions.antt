@@ -1,4 +1,4 @@
--- Lemmas that an arena has one list of chains in order, and one chain with each index.
+-- An arena has one list of chains in order, and one chain with each index.
 use Rattle.std.proofs.Common.{◌≡◌, ◌↔◌, ℕ, ◌<◌, ◌⊎◌, inl, inr, ⊎_elim, List, [], ◌∷◌, refl, sym, subst, arith}
 use Rattle.chain_laws.specs.Chains.{LinkMap, HasLink, HasLinksWithin, IsWellLinked, IsMember, AreDistinct, Chain, items, IsChain, HasChain, all_items, AreChains, StartsAtLeast, IsSortedByLeast}
 use Rattle.chain_laws.specs.Neighbors.{AreTheChains, IsChainOf, AllStartAtLeast, IsRotation, HasOneSetOfChains}
@@ -14,7 +14,6 @@ the_chains link_map slots agrees within =
     let all = has_chains link_map slots agrees within in
     (all.0, record { partition = partitions link_map all.0 all.1; interlinks = interlinks link_map all.0 all.1; order = all.2 })
 
--- Chains of an arena, in order and with no common index.
 record Ordered (link_map : LinkMap) (chains : List Chain) : Type 0 where
   each : (c : Chain) → HasChain chains c → IsChain link_map c
   written : (c : Chain) → HasChain chains c → StartsAtLeast c

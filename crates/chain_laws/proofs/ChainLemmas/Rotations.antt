@@ -1,4 +1,4 @@
--- Lemmas on rotations of chains.
+-- Rotations of chains.
 use Rattle.std.proofs.Common.{◌≡◌, ◌↔◌, ℕ, inl, List, [], ◌∷◌, ◌++◌, Option, None, Some, refl, sym, ap, subst, append-nil}
 use Rattle.chain_laws.specs.Chains.{LinkMap, IsMember, Chain, linear, cyclic, items, last_or, AreLinked, IsChain}
 use Rattle.chain_laws.specs.Neighbors.{IsRotation}

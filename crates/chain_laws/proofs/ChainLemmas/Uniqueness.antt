@@ -1,10 +1,9 @@
--- Lemmas that chains with a common index are the same.
+-- Chains with a common index are the same.
 use Rattle.std.proofs.Common.{◌≡◌, ◌≢◌, ℕ, ◌≤◌, inl, inr, ⊎_elim, List, [], ◌∷◌, Option, None, Some, refl, sym, ap, ◌∙◌, subst, arith}
 use Rattle.chain_laws.specs.Chains.{LinkMap, HasLink, IsMember, AreDistinct, Chain, linear, cyclic, items, first_or, last_or, prev_in, next_in, prev_of, next_of, AreLinked, IsChain, StartsAtLeast, IsAtMostEach}
 use Rattle.chain_laws.proofs.ListLemmas.Members.{first_or-IsMember, last_or-IsMember, last_or-filled}
 use Rattle.chain_laws.proofs.ChainLemmas.LinkedLists.{AreLinked-valid, AreLinked-next, AreLinked-prev, AreLinked-prev_some, AreLinked-first, one_onward, lists_are_one}
 
--- A set of indexes closed under next and prev.
 pub record HasAllNeighbors (link_map : LinkMap) (Member : ℕ → Type 0) : Type 0 where
   pub forward : (i j : ℕ) → Member i → next_of link_map i ≡ Some j → Member j
   pub back : (i j : ℕ) → Member i → prev_of link_map i ≡ Some j → Member j

@@ -1,4 +1,4 @@
--- Lemmas on the chains after a cut, and that `Cuts` determines them.
+-- The chains after a cut, and that `Cuts` determines them.
 use Rattle.std.specs.Prelude.{◌≡◌, ◌≢◌, ◌↔◌, ℕ, List, [], ◌∷◌, ◌++◌, Option, None, Some}
 use Rattle.std.proofs.Common.{sym, refl, ap, ◌∙◌, subst, inl, ⊎_elim}
 use Rattle.std.proofs.lemmas.List.{append_assoc}

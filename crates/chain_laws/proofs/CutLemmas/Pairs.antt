@@ -1,4 +1,4 @@
--- Lemmas on the interlinks after a cut.
+-- The interlinks after a cut.
 use Rattle.std.specs.Prelude.{◌≡◌, ◌≢◌, ◌↔◌, ℕ, ◌==◌, if◌then◌else◌, ◌⊎◌, None, Some}
 use Rattle.std.proofs.Common.{sym, refl, ap, ◌∙◌, inl, inr}
 use Rattle.std.proofs.lemmas.Bool.{cases_eq}

@@ -16,7 +16,6 @@ use Rattle.chain_laws.proofs.ChainLemmas.Determinacy.{pairs_decide}
 use Rattle.chain_laws.proofs.ExchangeLemmas.Swaps.{swapped, swapped_in, is_either_or_neither, swapped-first, swapped-second, swapped-other, swapped-twice}
 use Rattle.chain_laws.proofs.ExchangeLemmas.Swaps.{swapped-mutual, swapped_in-mutual, swapped-itself, swapped_in-other, swapped_in-twice}
 
--- The next of p and the next of q are exchanged.
 pub record AreExchanged (old new : LinkMap) (p q : ℕ) : Type 0 where
   pub forward : (i : ℕ) → next_of new i ≡ next_of old (swapped p q i)
   pub back : (i : ℕ) → prev_of new i ≡ swapped_in p q (prev_of old i)

@@ -8,7 +8,6 @@ use Rattle.chain_laws.proofs.InterlinkLemmas.Inverses.{if_same, if_other}
 abbrev pub swapped : ℕ → ℕ → ℕ → ℕ
 swapped p q i = if i == p then q else if i == q then p else i
 
--- An optional index after the swap.
 abbrev pub swapped_in : ℕ → ℕ → Option ℕ → Option ℕ
 swapped_in p q o = option_map (swapped p q) o
 

@@ -11,7 +11,6 @@ use Rattle.chain_laws.proofs.ChainLemmas.Existence.{ChainOf, stored_in, has_chai
 use Rattle.chain_laws.proofs.ChainLemmas.Determinacy.{chain_elsewhere, end_chain, start_chain}
 use Rattle.chain_laws.proofs.InsertionLemmas.Chains.{inserted_inserts}
 
--- The chain of q, with u and v, after any insertion between these.
 record Lengthened (old : LinkMap) (q : ℕ) (u v : Option ℕ) : Type 0 where
   chain : Chain
   has_new : IsMember (items chain) q

@@ -25,7 +25,6 @@ put_at-other f (Some i) o j ne = altered-other f i o j (λ e. ne (ap Some (sym e
 pub free_invalid : (link_map : LinkMap) (q : ℕ) → link_map q ≡ None → HasLink link_map q → ⊥
 free_invalid link_map q free valid = let links = sym free ∙ valid.links in cc
 
--- A new link at q comes after u.
 abbrev pub appended : LinkMap → ℕ → Option ℕ → LinkMap
 appended link_map q u = with_neighbors (with_lone link_map q) u (Some q)
 
@@ -41,7 +40,6 @@ HasLink-inserted link_map q u v i =
     let inner = HasLink-appended link_map q u i in
     (λ w. inner.0 (outer.0 w), λ w. outer.1 (inner.1 w))
 
--- q may be put between u and v.
 pub record IsBetween (link_map : LinkMap) (q : ℕ) (u v : Option ℕ) : Type 0 where
   pub valid_before : (i : ℕ) → u ≡ Some i → HasLink link_map i ⊎ (i ≡ q)
   pub valid_after : (i : ℕ) → v ≡ Some i → HasLink link_map i ⊎ (i ≡ q)
@@ -170,7 +168,6 @@ pub position_before : (link_map : LinkMap) (b q : ℕ) (u : Option ℕ) → IsWe
 position_before link_map b q None agrees valid is = (valid, is)
 position_before link_map b q (Some a) agrees valid is = inl ((agrees.both a b).1 is)
 
--- The requirements of a kind give an insertion position, if what it names has links.
 module _ {P I : Type 0} (place : P → ℕ) (number : I → ℕ) (is_valid : P → Type 0) (is_occupied : I → Type 0) (link_map : LinkMap)
     (at : (p : P) → is_valid p → HasLink link_map (place p)) (at_inx : (i : I) → is_occupied i → HasLink link_map (number i)) where
   pub kind_position : (kind : InsertKind P I) (q : ℕ) → IsWellLinked link_map → MayInsert place number is_valid is_occupied link_map kind

@@ -9,7 +9,6 @@ use Rattle.chain_laws.specs.Joins.{with_prev, with_next, with_prev_at, with_next
 use Rattle.chain_laws.specs.Insertions.{with_insertion}
 use Rattle.chain_laws.proofs.ChainLemmas.LinkedLists.{link}
 
--- A new link at q that names u and v.
 abbrev pub with_link : LinkMap → ℕ → Option ℕ → Option ℕ → LinkMap
 with_link link_map q u v j = if j == q then Some (link u v) else link_map j
 

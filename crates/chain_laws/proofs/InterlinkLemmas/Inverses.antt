@@ -3,15 +3,12 @@ use Rattle.std.specs.Prelude.{◌≡◌, ◌≢◌, ◌↔◌, ℕ, ◌==◌, if
 use Rattle.std.proofs.Common.{sym, ap, ◌∙◌, subst, ⊎_elim, eq-eqb, ne_eqb}
 use Rattle.std.proofs.lemmas.Bool.{cases_eq}
 
--- If f maps i to j, then g maps j to i.
 abbrev pub NamesBack : (ℕ → Option ℕ) → (ℕ → Option ℕ) → Type 0
 NamesBack f g = (i j : ℕ) → f i ≡ Some j → g j ≡ Some i
 
--- f and g undo each other.
 abbrev pub Undoes : (ℕ → Option ℕ) → (ℕ → Option ℕ) → Type 0
 Undoes f g = (i j : ℕ) → (f i ≡ Some j) ↔ (g j ≡ Some i)
 
--- f, with o at i.
 abbrev pub altered : (ℕ → Option ℕ) → ℕ → Option ℕ → ℕ → Option ℕ
 altered f i o j = if j == i then o else f j
 

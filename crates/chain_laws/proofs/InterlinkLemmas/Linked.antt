@@ -7,18 +7,15 @@ use Rattle.chain_laws.specs.Chains.{LinkMap, Interlinks, prev_in, next_in, prev_
 use Rattle.chain_laws.specs.Joins.{with_prev, with_next, with_prev_at, with_next_at, with_neighbors}
 use Rattle.chain_laws.proofs.InterlinkLemmas.Inverses.{altered, if_same, if_other, altered-same, altered-other, one_some}
 
--- The optional index is not j.
 abbrev pub IsElsewhere : Option ℕ → ℕ → Type 0
 IsElsewhere u j = (i : ℕ) → u ≡ Some i → j ≢ i
 
--- The optional index is valid, if it is an index.
 abbrev pub IsValidAt : LinkMap → Option ℕ → Type 0
 IsValidAt link_map u = (i : ℕ) → u ≡ Some i → HasLink link_map i
 
 pub IsValidAt-Some : (link_map : LinkMap) (i : ℕ) → HasLink link_map i → IsValidAt link_map (Some i)
 IsValidAt-Some link_map i valid k e = subst (HasLink link_map) (one_some e) valid
 
--- f, with o at u, if u is an index.
 abbrev pub put_at : (ℕ → Option ℕ) → Option ℕ → Option ℕ → ℕ → Option ℕ
 put_at f None o j = f j
 put_at f (Some i) o j = altered f i o j

@@ -5,7 +5,6 @@ use Rattle.std.proofs.lemmas.Bool.{cases_eq}
 use Rattle.chain_laws.proofs.InterlinkLemmas.Inverses.{Undoes, one_some, not_both_ways}
 use Rattle.chain_laws.proofs.InterlinkLemmas.Skips.{names_or_not, undoes_back}
 
--- h is f, but maps q to v and u to q.
 pub record Puts (f h : ℕ → Option ℕ) (q : ℕ) (u v : Option ℕ) : Type 0 where
   pub here : h q ≡ v
   pub before : (j : ℕ) → j ≢ q → u ≡ Some j → h j ≡ Some q

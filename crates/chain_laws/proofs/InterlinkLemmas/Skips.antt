@@ -10,7 +10,6 @@ pub record Skips (f h : ℕ → Option ℕ) (q : ℕ) : Type 0 where
   pub past : (j : ℕ) → j ≢ q → f j ≡ Some q → h j ≡ f q
   pub elsewhere : (j : ℕ) → j ≢ q → f j ≢ Some q → h j ≡ f j
 
--- (i, j) is a pair of f without q, or the pair around q.
 abbrev pub IsPairPast : (ℕ → Option ℕ) → (ℕ → Option ℕ) → ℕ → ℕ → ℕ → Type 0
 IsPairPast f g q i j = ((f i ≡ Some j) × (i ≢ q) × (j ≢ q)) ⊎ ((g q ≡ Some i) × (f q ≡ Some j) × (i ≢ q) × (j ≢ q))
 

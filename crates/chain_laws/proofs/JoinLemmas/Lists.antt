@@ -8,7 +8,6 @@ use Rattle.chain_laws.proofs.ChainLemmas.LinkedLists.{AreLinked-frame, IsChain-f
 use Rattle.chain_laws.proofs.InterlinkLemmas.Linked.{IsElsewhere, with_next_at-elsewhere, with_prev_at-elsewhere, linked-elsewhere, with_next_at-at, with_prev_at-at}
 use Rattle.chain_laws.proofs.InterlinkLemmas.Inverses.{one_some}
 
--- The optional index is not among the items.
 abbrev pub IsOutside : Option ℕ → List ℕ → Type 0
 IsOutside u xs = (i : ℕ) → u ≡ Some i → IsMember xs i → ⊥
 

@@ -1,5 +1,4 @@
--- What a renaming preserves (whether they agree, neighbor pairs and chains), and that the images of the
--- chains determine it.
+-- What a renaming preserves (whether they agree, neighbor pairs and chains), and that the images of the chains determine it.
 use Rattle.std.proofs.Common.{◌≡◌, ◌↔◌, ℕ, inl, inr, List, [], ◌∷◌, Option, None, Some, refl, sym, ap, ◌∙◌, subst, ap₂}
 use Rattle.std.specs.Option.{option_and_then}
 use mathlib.Core.Path.{fun_ext}

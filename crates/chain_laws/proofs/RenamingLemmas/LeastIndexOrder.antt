@@ -30,7 +30,6 @@ least_index_order_is_canonical link_map indexes order = record {
   items = order.items;
 }
 
--- Each item is below all items after it.
 abbrev pub IsAscending : List ℕ → Type 0
 IsAscending [] = Unit {0}
 IsAscending (x ∷ xs) = ((y : ℕ) → IsMember xs y → x < y) × IsAscending xs

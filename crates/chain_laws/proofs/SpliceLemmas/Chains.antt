@@ -15,14 +15,12 @@ use Rattle.chain_laws.proofs.SpliceLemmas.Interlinks.{next_without_run, beyond, 
 use Rattle.chain_laws.proofs.SpliceLemmas.Follows.{AreFollowed, AreFollowed-append, AreFollowed-left, AreFollowed-right, AreFollowed-frame, AreFollowed-redirected, AreFollowed-within, AreFollowed-last, first_or-Some, AreLinked-followed, followed-AreLinked}
 use Rattle.chain_laws.proofs.SpliceLemmas.Follows.{run_has_first, run_has_last, around_members, run_members, run_once, around_once, run_apart, placed_members, placed_once, placed_first}
 
--- The links of the run, each mapped by f to the one after it.
 record IsFollowedRun (f : ℕ → Option ℕ) (Valid : ℕ → Type 0) (run : List ℕ) : Type 0 where
   pub after : Option ℕ
   pub followed : AreFollowed f run after
   pub once : AreDistinct run
   pub valid : (i : ℕ) → IsMember run i → Valid i
 
--- Links of a chain without the run, each mapped by b to the one after it.
 record IsRestOfChain (b : ℕ → Option ℕ) (Valid : ℕ → Type 0) (run xs : List ℕ) (after : Option ℕ) : Type 0 where
   pub followed : AreFollowed b xs after
   pub once : AreDistinct xs

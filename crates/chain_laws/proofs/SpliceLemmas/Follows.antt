@@ -7,7 +7,6 @@ use Rattle.chain_laws.proofs.ListLemmas.Members.{IsMember-left, IsMember-right, 
 use Rattle.chain_laws.proofs.ChainLemmas.LinkedLists.{reports_both}
 use Rattle.chain_laws.proofs.InterlinkLemmas.Inverses.{one_some}
 
--- f maps each item to the item after it, and the last one to `after`.
 abbrev pub AreFollowed : (ℕ → Option ℕ) → List ℕ → Option ℕ → Type 0
 AreFollowed f [] after = Unit {0}
 AreFollowed f (x ∷ xs) after = (f x ≡ first_or xs after) × AreFollowed f xs after

@@ -15,15 +15,12 @@ put_at-alike : (f h : ℕ → Option ℕ) (u o : Option ℕ) (j : ℕ) → f j �
 put_at-alike f h None o j e = e
 put_at-alike f h (Some i) o j e = ap (λ (r : Option ℕ). if j == i then o else r) e
 
--- f without the run from `first` to `last`: what comes before it is mapped to what follows it.
 abbrev pub next_without_run : (f g : ℕ → Option ℕ) (first last : ℕ) → ℕ → Option ℕ
 next_without_run f g first last = put_at f (g first) (f last)
 
--- f with p mapped to `first`, and `last` to v.
 abbrev pub next_with_splice : (f g : ℕ → Option ℕ) (p first last : ℕ) (v : Option ℕ) → ℕ → Option ℕ
 next_with_splice f g p first last v = altered (altered (next_without_run f g first last) p (Some first)) last v
 
--- g with `first` mapped to p, and v to `last`.
 abbrev pub prev_with_splice : (f g : ℕ → Option ℕ) (p first last : ℕ) (v : Option ℕ) → ℕ → Option ℕ
 prev_with_splice f g p first last v = put_at (altered (put_at g (f last) (g first)) first (Some p)) v (Some last)
 
@@ -122,7 +119,6 @@ module _ (link_map : LinkMap) (p first last : ℕ) (agrees : IsWellLinked link_m
   abbrev pub new : LinkMap
   new = with_splice link_map p first last
 
-  -- What follows p without the run.
   abbrev pub beyond : Option ℕ
   beyond = next_of rest p
 

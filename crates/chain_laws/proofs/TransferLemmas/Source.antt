@@ -14,7 +14,6 @@ use Rattle.chain_laws.proofs.WalkLemmas.Walker.{step_forward-other}
 use Rattle.chain_laws.proofs.RemovalLemmas.Pairs.{HasLink-removed}
 use Rattle.chain_laws.proofs.RemovalLemmas.Chains.{removed_from_linear, removed_first_of_cyclic, removed_rest}
 
--- A chain written from `here` is cyclic exactly if `here` has a prev.
 module _ (link_map : LinkMap) (here : ℕ) where
   linear_first : (xs : List ℕ) → IsChain link_map (linear xs) → first_or xs None ≡ Some here
       → (ys : List ℕ) × (linear xs ≡ chain_of (is_some (prev_of link_map here)) (here ∷ ys)) × (xs ≡ here ∷ ys)

@@ -79,7 +79,6 @@ longer_run new ring k n a q last after h =
     subst (λ (zs : List ℕ). IsChain new (chain_of ring zs)) (sym (ap (range_with_len k) (let e : suc n + 1 ≡ (n + 1) + 1 = omega arith in e) ∙ range_last k (n + 1) ∙ ap₂ (λ (zs : List ℕ) (z : ℕ). zs ++ z ∷ []) (range_last k n) (let e : k + (n + 1) ≡ q = omega arith in e)
     ∙ (append_assoc (range_with_len k n) ((k + n) ∷ []) (q ∷ []) ∙ ap (λ (z : ℕ). range_with_len k n ++ z ∷ q ∷ []) (sym last)))) h
 
--- The insertion position of the new link, and the longer last chain.
 record IsEnd (link_map : LinkMap) (ring : Bool) (k m q : ℕ) : Type 0 where
   position : IsInsertPosition link_map q (end_before ring m q) (end_after ring m q)
   longer : (new : LinkMap) → Inserts link_map new q (end_before ring m q) (end_after ring m q) → IsChain new (chain_of ring (range_with_len k (m + 1)))

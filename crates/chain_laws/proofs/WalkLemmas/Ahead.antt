@@ -4,7 +4,6 @@ use Rattle.std.proofs.Common.{refl, arith}
 use Rattle.chain_laws.specs.Chains.{LinkMap, prev_of, next_of}
 use Rattle.chain_laws.specs.Walks.{walk_ahead, step_forward, step_back}
 
--- A walker passes these links, and then no more.
 abbrev pub IsAhead : LinkMap → ℕ → Option ℕ → Option ℕ → List ℕ → Type 0
 IsAhead link_map start None None [] = Unit {0}
 IsAhead link_map start None (Some k) [] = ⊥

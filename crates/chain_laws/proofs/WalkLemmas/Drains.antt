@@ -33,7 +33,6 @@ rest_forward link_map i k before e ne = rest_by link_map i before (Some k) e ∙
 rest_back : (link_map : LinkMap) (i k : ℕ) → link_map i ≡ Some (link (Some k) None) → k ≢ i → rest_start_of link_map i ≡ Some k
 rest_back link_map i k e ne = rest_by link_map i (Some k) None e ∙ step_forward-other i k ne
 
--- The rest of a walk without its first link.
 record LeavesWalk (link_map : LinkMap) (i : ℕ) (rest : List ℕ) : Type 0 where
   first : first_or rest None ≡ rest_start_of link_map i
   walk : (k : ℕ) → first_or rest None ≡ Some k → IsWalk (with_removal link_map i) k rest
@@ -89,7 +88,6 @@ reports_rest link_map i walk is_walk j none =
     (λ k named same. none ((own.2 j).1 (closed.forward i j here (named ∙ ap (λ (n : ℕ). Some n) (sym same)))))
     ∙ vacated-elsewhere link_map i j (λ same. none (subst (IsMember walk) (sym same) (walk_starts link_map i walk is_walk)))
 
--- The links of the walk are removed, and no others.
 record EmptiesWalk (old new : LinkMap) (walk : List ℕ) : Type 0 where
   gone : (j : ℕ) → IsMember walk j → new j ≡ None
   rest : (j : ℕ) → (IsMember walk j → ⊥) → new j ≡ old j

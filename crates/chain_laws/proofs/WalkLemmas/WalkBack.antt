@@ -9,7 +9,6 @@ use Rattle.chain_laws.proofs.ChainLemmas.Uniqueness.{chain_valid, chain_once}
 use Rattle.chain_laws.proofs.ChainLemmas.Partitions.{chain_of_each}
 use Rattle.chain_laws.proofs.ChainLemmas.Rotations.{rotated_to}
 
--- A list is empty, or has a last item.
 pub data IsEmptyOrEnds : List ℕ → Type 0 where
   is_empty : IsEmptyOrEnds []
   ends_in : (xs : List ℕ) (x : ℕ) → IsEmptyOrEnds (xs ++ x ∷ [])
@@ -35,7 +34,6 @@ back_begins link_map i = record {
   in_cyclic = λ xs h. (xs, [], sym (append-nil xs), refl, omega arith);
 }
 
--- The place of a walker in a linear and in a cyclic chain.
 module _ (i steps here : ℕ) where
   record InLinear (xs : List ℕ) : Type 0 where
     before : List ℕ

@@ -8,7 +8,6 @@ use Rattle.chain_laws.proofs.ListLemmas.Members.{AreDistinct-right}
 use Rattle.chain_laws.proofs.ChainLemmas.LinkedLists.{AreLinked-left, AreLinked-right}
 use Rattle.chain_laws.proofs.InterlinkLemmas.Inverses.{if_same, if_other}
 
--- Each item has the next in the list as its prev, and the last has none.
 abbrev pub StepsBack : LinkMap → List ℕ → Type 0
 StepsBack link_map [] = Unit {0}
 StepsBack link_map (z ∷ zs) = (prev_of link_map z ≡ first_or zs None) × StepsBack link_map zs

@@ -6,7 +6,6 @@ use Rattle.chain_laws.specs.Joins.{with_prev_at, with_next_at, with_join, with_l
 use Rattle.chain_laws.specs.Exchanges.{with_exchange}
 use Rattle.chain_laws.proofs.ChainLemmas.LinkedLists.{link}
 
--- The empty arena.
 abbrev bare : LinkMap
 bare i = None
 

@@ -9,7 +9,6 @@ use Rattle.chain_laws.specs.declared.insert_kind.InsertKind.{InsertKind}
 use Rattle.chain_laws.specs.declared.insert_kind.InsertKind.TheVariants.{Disconnected, SingleLinkCyclic, ChainEnd, ChainStart, NextTo, PrevTo, AtInterlink, Bridge}
 use Rattle.chain_laws.proofs.ChainLemmas.LinkedLists.{link}
 
--- The empty arena.
 abbrev bare : LinkMap
 bare i = None
 

@@ -6,7 +6,6 @@ use Rattle.chain_laws.specs.Joins.{with_join, with_neighbors, with_lone}
 use Rattle.chain_laws.specs.Walks.{IsWalk, of_linear, of_cyclic, walk_ahead}
 use Rattle.chain_laws.proofs.ChainLemmas.LinkedLists.{link, first_no_repetition}
 
--- The empty arena.
 abbrev bare : LinkMap
 bare i = None
 

@@ -6,7 +6,6 @@ use Rattle.chain_laws.specs.Joins.{with_prev_at, with_next_at, with_neighbors, w
 use Rattle.chain_laws.specs.Removals.{without_link, with_removal, list_without, chain_without}
 use Rattle.chain_laws.proofs.ChainLemmas.LinkedLists.{link}
 
--- The empty arena.
 abbrev bare : LinkMap
 bare i = None
 

@@ -9,7 +9,6 @@ use Rattle.chain_laws.specs.Arrangements.{place_in, in_runs}
 use Rattle.chain_laws.specs.Moves.{moved_index, with_link_moved, with_link_placed, gathered_place}
 use Rattle.chain_laws.proofs.ChainLemmas.LinkedLists.{link}
 
--- The empty arena.
 abbrev bare : LinkMap
 bare i = None
 
@@ -24,8 +23,6 @@ ring_of_one = with_join (with_lone bare 2) 2 2
 -- The linear chain 3 4.
 abbrev pair : LinkMap
 pair = with_join (with_lone (with_lone bare 3) 4) 3 4
-
--- ---- an order of all links
 
 -- Links of the two chains.
 two_chains_end : two_chains 4 ≡ Some (link (Some 1) None)
@@ -64,8 +61,6 @@ runs_row_swapped = refl
 -- The items of the runs.
 numbers_row : range_with_len 1 4 ≡ 1 ∷ 2 ∷ 3 ∷ 4 ∷ []
 numbers_row = refl
-
--- ---- a link that moves
 
 -- A link that names itself moves from 2 to 1, as its own neighbor.
 ring_moves : with_link_moved ring_of_one 2 1 1 ≡ Some (link (Some 1) (Some 1))
@@ -106,8 +101,6 @@ other_chain_stays = refl
 -- A link that moves to its own index changes nothing.
 moves_nowhere : with_link_moved two_chains 4 4 1 ≡ Some (link None (Some 4))
 moves_nowhere = refl
-
--- ---- closed holes
 
 -- Gathering the chain 3 4: none moved, 3 moved, both moved.
 none_gone : gathered_place pair [] 2 3 ≡ Some 3

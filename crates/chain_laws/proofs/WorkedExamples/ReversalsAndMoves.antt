@@ -8,7 +8,6 @@ use Rattle.chain_laws.specs.MoveAfter.{with_move_after}
 use Rattle.chain_laws.specs.Orders.{with_order}
 use Rattle.chain_laws.proofs.ChainLemmas.LinkedLists.{link}
 
--- The empty arena.
 abbrev bare : LinkMap
 bare i = None
 

@@ -1,5 +1,4 @@
--- The links passed have destinations, their interlinks name destinations, and the visitor has seen
--- them.
+-- The links passed have destinations, their interlinks name destinations, and the visitor has seen them.
 use Rattle.std.proofs.Common.{◌≡◌, ◌-◌, ℕ, List, length}
 use Rattle.std.specs.Option.{option_map}
 use Rattle.chain_laws.specs.Chains.{Chain}

@@ -1,5 +1,4 @@
--- The walks that are left, the starts that were found, and the links that were read: one for each
--- walk that went on or ended.
+-- The walks that are left, the starts that were found, and the links that were read: one for each walk that went on or ended.
 use Rattle.std.proofs.Common.{◌≡◌, ◌≤◌, ◌+◌, ◌-◌, length}
 use Rattle.chain_compaction.specs.SlotReads.{HasReadSlots}
 use Rattle.chain_compaction.specs.FoundStarts.{AreWalksBack, AreStartsOfFresh}
