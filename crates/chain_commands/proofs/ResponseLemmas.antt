@@ -56,7 +56,6 @@ abbrev pub none_passed : List Passed → Bool
 none_passed [] = true
 none_passed (e ∷ links) = false
 
--- The links passed are in the text, and the others are left.
 pub record IsWalked (before text : List ℕ) (first : Bool) (all left : List Passed) : Type 0 where
   pub passed : List Passed
   pub walk : all ≡ passed ++ left

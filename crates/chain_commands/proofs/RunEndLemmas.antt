@@ -12,7 +12,6 @@ use Rattle.chain_commands.specs.Progress.{TranscribesOne, Progress, HasProgresse
 use Rattle.chain_commands.proofs.LineSplitLemmas.{all_but_last-append}
 use Rattle.chain_commands.proofs.ProgressLemmas.{Transcribes-more}
 
--- The run has executed what was read so far.
 pub record HasRead (old new : ToolArenas) (kept : List ℕ) (left left_after held held_after : Option (List ℕ)) : Type 0 where
   pub read : List ℕ
   pub reads : Consumes left left_after read

@@ -16,7 +16,6 @@ digit_words = numerals_by_value _ tells_all_ascii_digits
 both_true : (a b : Bool) → (a && b) ≡ true → (a ≡ true) × (b ≡ true)
 both_true a b h = search rules
 
--- The word is a number.
 pub record IsNumber (word : List ℕ) : Type 0 where
   pub some : 0 < length word
   pub short : length word ≤ 10
@@ -93,7 +92,6 @@ after_spaces_begins (c ∷ text) = by_test (c == 32) refl (after_spaces_begins t
     by_test true e rest = subst (λ n. BeginsNoSpace (drop n (c ∷ text))) (sym (one-add (spaces text))) rest
     by_test false e rest = e
 
--- The position of the first space.
 abbrev pub word_end : List ℕ → ℕ
 word_end text = position_or_len is_space text
 

@@ -1,4 +1,4 @@
--- The commands of the program, as parsed from lines.
+-- Commands, as parsed from lines.
 use Rattle.std.specs.Prelude.{◌≡◌, ℕ, nat_lt, Bool, true, false, if◌then◌else◌, List, [], ◌∷◌, length, codes, bytes_eq, Option, Some, None, option_and_then}
 use Rattle.std.specs.Option.{option_map, option_or, option_zip}
 use Rattle.arena_ptr.specs.declared.index.inx32.Inx32.{Inx32}
@@ -15,87 +15,75 @@ use Rattle.chain_commands.specs.declared.command.Line.{Line}
 use Rattle.chain_commands.specs.declared.command.Line.TheVariants as lines
 use Rattle.chain_commands.specs.Words.{words_of, number_of, index_word, generation_of, pointer_of, without_return}
 
--- Kinds of a new link, whose neighbors are named by pointer or index.
 abbrev pub Kind : Type 0
 Kind = InsertKind ToolPtr Inx32
 
--- Calls that may change the links.
 abbrev pub LinkCall : Type 0
 LinkCall = Call ToolPtr ℕ Inx32 Gen32 ℕ
 
--- Calls that may change two arenas.
 abbrev pub ArenaCall : Type 0
 ArenaCall = PairCall ToolPtr ℕ Inx32 Gen32 ℕ
 
--- Arguments that are one word.
 abbrev pub one_word : List (List ℕ) → Option (List ℕ)
 one_word [] = None
 one_word (word ∷ []) = Some word
 one_word (word ∷ next ∷ words) = None
 
--- Arguments that are one number.
 abbrev pub one_number : List (List ℕ) → Option ℕ
 one_number words = option_and_then number_of (one_word words)
 
--- Arguments that are one pointer.
 abbrev pub one_pointer : List (List ℕ) → Option ToolPtr
 one_pointer words = option_and_then pointer_of (one_word words)
 
--- Arguments that are two pointers.
 abbrev pub two_pointers : List (List ℕ) → Option (ToolPtr × ToolPtr)
 two_pointers [] = None
 two_pointers (word ∷ words) = option_zip (pointer_of word) (one_pointer words)
 
--- Arguments that are three pointers.
 abbrev pub three_pointers : List (List ℕ) → Option (ToolPtr × (ToolPtr × ToolPtr))
 three_pointers [] = None
 three_pointers (word ∷ words) = option_zip (pointer_of word) (two_pointers words)
 
--- The pointers that words state, if each word states one.
+-- The pointers of words, if each word is one.
 abbrev pub pointers_of : List (List ℕ) → Option (List ToolPtr)
 pointers_of [] = Some []
 pointers_of (word ∷ words) = option_map (λ p. p.0 ∷ p.1) (option_zip (pointer_of word) (pointers_of words))
 
--- Arguments that are one or more pointers.
+-- One or more pointers.
 abbrev pub order_of : List (List ℕ) → Option (List ToolPtr)
 order_of [] = None
 order_of (word ∷ words) = pointers_of (word ∷ words)
 
--- The call that puts links in an order. The capacity of its `Vec` is left open.
+-- The call arranges the links in this order; the capacity of its `Vec` is open.
 abbrev pub IsArrangement : List ToolPtr → LinkCall → Type 0
 IsArrangement order (ArrangeChain links) = links.items ≡ order
 IsArrangement order call = ⊥
 
--- Arguments that are a pointer and a number.
 abbrev pub pointer_and_number : List (List ℕ) → Option (ToolPtr × ℕ)
 pointer_and_number [] = None
 pointer_and_number (word ∷ words) = option_zip (pointer_of word) (one_number words)
 
--- No arguments.
 abbrev pub no_arguments : List (List ℕ) → Option Unit
 no_arguments [] = Some tt
 no_arguments (word ∷ words) = None
 
--- Whether a compression resets the counter.
+-- Whether the counter is reset.
 abbrev pub reset_of : List (List ℕ) → Option Bool
 reset_of words = option_and_then (λ word. if bytes_eq word (codes "reset") then Some true else (if bytes_eq word (codes "keep") then Some false else None)) (one_word words)
 
--- The result by pointers if there are any, or else by indexes.
+-- By pointers if there are any, or else by indexes.
 abbrev pub by_either : {P I A : Type 0} → (P → A) → (I → A) → Option P → Option I → Option A
 by_either by_pointers by_indexes pointers indexes = option_or (option_map by_pointers pointers) (option_map by_indexes indexes)
 
--- The removal of a link, by pointer or index.
+-- A removal by pointer or index.
 abbrev pub removal : List (List ℕ) → Option LinkCall
 removal words = option_and_then (λ word. by_either Remove RemoveInx (pointer_of word) (index_word word)) (one_word words)
 
--- The kinds that name no neighbor.
 abbrev pub kind_alone : List ℕ → Option Kind
 kind_alone name =
     if bytes_eq name (codes "alone") then Some kinds.Disconnected
     else (if bytes_eq name (codes "ring") then Some kinds.SingleLinkCyclic
     else None)
 
--- The kinds that name one neighbor.
 abbrev pub kind_beside : List ℕ → List ℕ → Option Kind
 kind_beside name word =
     let p = pointer_of word in
@@ -106,8 +94,7 @@ kind_beside name word =
     else (if bytes_eq name (codes "before") then by_either kinds.PrevTo kinds.PrevToInx p i
     else None)))
 
--- The kinds that name two neighbors, both by pointer or both by index: the link before and the link
--- after.
+-- The kinds between two neighbors, both by pointer or both by index.
 abbrev pub kind_between : List ℕ → List ℕ → List ℕ → Option Kind
 kind_between name first second =
     let p = option_zip (pointer_of first) (pointer_of second) in
@@ -116,14 +103,14 @@ kind_between name first second =
     else (if bytes_eq name (codes "bridge") then by_either (λ x. kinds.Bridge x.0 x.1) (λ x. kinds.BridgeInx x.0 x.1) p i
     else None)
 
--- An insertion: the kind of the new link, its neighbors, and its value at the end.
+-- A kind, its neighbors, and the value.
 abbrev pub insertion : List (List ℕ) → Option (Kind × ℕ)
 insertion (name ∷ value ∷ []) = option_zip (kind_alone name) (number_of value)
 insertion (name ∷ x ∷ value ∷ []) = option_zip (kind_beside name x) (number_of value)
 insertion (name ∷ x ∷ y ∷ value ∷ []) = option_zip (kind_between name x y) (number_of value)
 insertion words = None
 
--- The command with this name and these arguments if it is no call on one arena.
+-- A command that is no call on one arena.
 abbrev pub remaining_command : List ℕ → List (List ℕ) → Option Command
 remaining_command name arguments =
     if bytes_eq name (codes "show") then option_map Show (one_pointer arguments)
@@ -134,7 +121,7 @@ remaining_command name arguments =
     else (if bytes_eq name (codes "other") then option_map (λ none. Other) (no_arguments arguments)
     else None)))))
 
--- The command with this name and these arguments, except `arrange`.
+-- Any command but `arrange`.
 abbrev pub short_command : List ℕ → List (List ℕ) → Option Command
 short_command name arguments =
     if bytes_eq name (codes "add") then option_map (λ a. Change (Insert a.0 a.1)) (insertion arguments)
@@ -157,7 +144,6 @@ short_command name arguments =
     else (if bytes_eq name (codes "incgen") then option_map (λ none. Change IncGeneration) (no_arguments arguments)
     else remaining_command name arguments)))))))))))))))))
 
--- The command with this name and these arguments.
 abbrev pub command_of : List ℕ → List (List ℕ) → Option Command
 command_of name arguments = if bytes_eq name (codes "arrange") then option_map Arrange (order_of arguments) else short_command name arguments
 
@@ -165,7 +151,6 @@ abbrev pub line_with : Option Command → Line
 line_with None = lines.Bad
 line_with (Some command) = lines.Good command
 
--- A line with these words.
 abbrev pub line_of_words : List (List ℕ) → Line
 line_of_words [] = lines.Blank
 line_of_words (name ∷ arguments) = line_with (command_of name arguments)

@@ -8,7 +8,7 @@ use Rattle.chain_commands.specs.Commands.{line_of}
 use Rattle.chain_commands.specs.Responses.{ToolArenas, RespondsToLine, LeavesStep}
 use Rattle.chain_commands.specs.Transcripts.{Transcribes, IsCutShort, TranscribesSome}
 
--- The result of writing a text: all is written, or a first part if the writer fails.
+-- A text is written, or a first part if the writer fails.
 abbrev pub WritesText : {A : Type 0} → Result A ToolError → (held held_after : Option (List ℕ)) → List ℕ → Type 0
 WritesText returned held held_after text = record {
   ok : OnOk returned (Appends held held_after text);
@@ -16,31 +16,29 @@ WritesText returned held held_after text = record {
   error : IfErr returned (λ e. e ≡ errors.Write);
 }
 
--- The result of appending to an unfinished line, of which at most 201 bytes are kept.
+-- At most 201 bytes of an unfinished line are kept.
 abbrev pub KeepsMore : {A : Type 0} → Result A ToolError → (kept kept_after more : List ℕ) → Type 0
 KeepsMore returned kept kept_after more = record {
   ok : OnOk returned ((rest : List ℕ) → kept ≡ take 201 rest → kept_after ≡ take 201 (rest ++ more));
   error : IfErr returned (λ e. e ≡ errors.Memory);
 }
 
--- One executed line: the response is written, in part if the writer fails. After an allocation
--- failure nothing is written, and only a call may have taken effect.
+-- A line is executed; after an allocation failure nothing is written, and only a call may have
+-- taken effect.
 abbrev pub TranscribesOne : {A : Type 0} → Result A ToolError → ToolArenas → ToolArenas → List ℕ → Option (List ℕ) → Option (List ℕ) → Type 0
 TranscribesOne (Ok x) old new line held held_after = (text : List ℕ) × RespondsToLine old (line_of line) text new × Appends held held_after text
 TranscribesOne (Err errors.Read) old new line held held_after = ⊥
 TranscribesOne (Err errors.Write) old new line held held_after = (front : List ℕ) × (rest : List ℕ) × RespondsToLine old (line_of line) (front ++ rest) new × Appends held held_after front
 TranscribesOne (Err errors.Memory) old new line held held_after = Keeps held held_after × ((new ≡ old) ⊎ LeavesStep old (line_of line) new)
 
--- The result of a line whose beginning was kept, up to 201 bytes, and whose end is `front`: it is
--- executed, and then nothing is kept.
+-- The line that was kept in part and ends with `front` is executed.
 abbrev pub EndsLine : {A : Type 0} → Result A ToolError → ToolArenas → (kept front : List ℕ) → Option (List ℕ) → ToolArenas → List ℕ → Option (List ℕ) → Type 0
 EndsLine returned old kept front held new kept_after held_after = record {
   responded : (rest : List ℕ) → kept ≡ take 201 rest → TranscribesOne returned old new (rest ++ front) held held_after;
   empty : OnOk returned (kept_after ≡ []);
 }
 
--- The whole lines read so far are executed. At most 201 bytes of the rest are kept, which suffice
--- because a line of more than 200 bytes is bad.
+-- Whole lines are executed; of the rest 201 bytes are kept, since a line over 200 is bad.
 pub record Progress (old : ToolArenas) (read : List ℕ) (new : ToolArenas) (kept : List ℕ) (held held_after : Option (List ℕ)) : Type 0 where
   pub lines : List (List ℕ)
   pub rest : List ℕ
@@ -50,14 +48,14 @@ pub record Progress (old : ToolArenas) (read : List ℕ) (new : ToolArenas) (kep
   pub responses : Transcribes old lines text new
   pub writes : Appends held held_after text
 
--- The progress after more was read; at a fault only whole lines have been executed.
+-- The progress after more was read; at a fault only of whole lines.
 abbrev pub HasProgressed : {A : Type 0} → Result A ToolError → ToolArenas → List ℕ → ToolArenas → List ℕ → Option (List ℕ) → Option (List ℕ) → Type 0
 HasProgressed (Ok x) old read new kept held held_after = Progress old read new kept held held_after
 HasProgressed (Err errors.Read) old read new kept held held_after = ⊥
 HasProgressed (Err errors.Write) old read new kept held held_after = (text : List ℕ) × IsCutShort old new (whole_lines read) text × Appends held held_after text
 HasProgressed (Err errors.Memory) old read new kept held held_after = (text : List ℕ) × TranscribesSome old new (whole_lines read) text × Appends held held_after text
 
--- The progress before a piece of input determines the progress after it.
+-- The progress before a piece of input determines that after it.
 abbrev pub ExtendsProgress : {A : Type 0} → Result A ToolError → List ℕ → ToolArenas → List ℕ → Option (List ℕ) → ToolArenas → List ℕ → Option (List ℕ) → Type 0
 ExtendsProgress returned piece now kept held_now new kept_after held_after =
     (old : ToolArenas) (read : List ℕ) (held : Option (List ℕ)) → Progress old read now kept held held_now → HasProgressed returned old (read ++ piece) new kept_after held held_after

@@ -1,4 +1,4 @@
--- The response of the program to a line, and the arenas after it.
+-- Responses to lines.
 use Rattle.std.specs.Prelude.{◌≡◌, ℕ, ◌+◌, ◌≤◌, ◌⊎◌, List, ◌∷◌, [], ◌++◌, map, length, codes, decimal, String, string_bytes, Bool, true, false, Option, None, Some, Result, Ok, Err, OnOk, OnErr}
 use Rattle.std.specs.List.{join_with_byte, concat}
 use Rattle.std.specs.String.{string_capacity}
@@ -37,81 +37,73 @@ use Rattle.chain_commands.specs.declared.command.Command.TheVariants.{Change, Ar
 use Rattle.chain_commands.specs.declared.command.Line.{Line}
 use Rattle.chain_commands.specs.declared.command.Line.TheVariants.{Blank, Bad, Good}
 
--- An arena of the program: links of numbers, with 32-bit indexes and generations.
+-- Links of numbers, with 32-bit indexes and generations.
 abbrev pub ToolLinks : Type 0
 ToolLinks = Arena Gen32 (LinkView ℕ)
 
--- Both arenas of the program: the one of the commands, and the other one.
+-- The arena of the commands, and the other one.
 abbrev pub ToolArenas : Type 0
 ToolArenas = LinksPair Gen32 ℕ
 
--- The text of a pointer: its index, a dot and its generation.
+-- An index, a dot and a generation.
 abbrev pub pointer_text : ℕ × Gen32 → List ℕ
 pointer_text p = decimal p.0 ++ codes "." ++ decimal (number_of_gen32 p.1)
 
--- The text of a neighbor: its pointer, or a dash.
+-- A pointer, or a dash.
 abbrev pub neighbor_text : Option (ℕ × Gen32) → List ℕ
 neighbor_text None = codes "-"
 neighbor_text (Some p) = pointer_text p
 
--- The text of a link: its neighbors and its value.
+-- The neighbors and the value.
 abbrev pub show_text : Option (ℕ × Gen32) → Option (ℕ × Gen32) → ℕ → List ℕ
 show_text prev next value = codes "prev " ++ neighbor_text prev ++ codes " next " ++ neighbor_text next ++ codes " value " ++ decimal value
 
--- The text of a link in a walk: its pointer and its value.
+-- A pointer and a value.
 abbrev pub passed_text : ℕ × Gen32 → ℕ → List ℕ
 passed_text p value = pointer_text p ++ codes ":" ++ decimal value
 
 abbrev pub walked_text : ℕ × (Gen32 × LinkView ℕ) → List ℕ
 walked_text e = passed_text (e.0, e.1.0) e.1.1.value
 
--- The text of a walk: its links, separated by spaces.
+-- The links, separated by spaces.
 abbrev pub walk_text : List (ℕ × (Gen32 × LinkView ℕ)) → List ℕ
 walk_text links = join_with_byte 32 (map walked_text links)
 
--- The pointer is valid in the arena.
 abbrev pub IsValidIn : ToolLinks → ℕ × Gen32 → Type 0
 IsValidIn a p = IsValid (entry a) p
 
--- The link at a pointer, with the current pointers of its neighbors and its value.
+-- The link at a pointer: its neighbors' pointers and its value.
 abbrev pub IsLinkIn : ToolLinks → ℕ × Gen32 → Option (ℕ × Gen32) → Option (ℕ × Gen32) → ℕ → Type 0
 IsLinkIn a p prev next value = chain.IsLinkAt (entry a) (link_map a) p prev next value
 
--- The texts of a link's pointer and of a value.
 abbrev pub at_text : ToolPtr → List ℕ
 at_text p = codes "at " ++ pointer_text (key_of p)
 
 abbrev pub value_text : ℕ → List ℕ
 value_text value = codes "value " ++ decimal value
 
--- The text of a result where the pointer may be invalid and the counter may overflow.
 abbrev pub invalidation_text : {A : Type 0} → (A → List ℕ) → InvalidationResult A → List ℕ
 invalidation_text text (result.Success x) = text x
 invalidation_text text (result.GenerationOverflow x) = text x ++ codes " overflow"
 invalidation_text text result.InvalidPtr = codes "none"
 
--- The text of a call that reports only whether the counter overflowed.
 abbrev pub counted_text : InvalidationOption Unit → List ℕ
 counted_text (option.Success done) = codes "ok"
 counted_text (option.GenerationOverflow done) = codes "ok overflow"
 
--- The reason that an insertion failed.
 abbrev pub refusal_text : ChainInsertionError → List ℕ
 refusal_text failed.FailedLinkRequirement = codes "refused link"
 refusal_text failed.NotWithinCapacity = codes "refused capacity"
 refusal_text failed.AllocError = codes "refused memory"
 refusal_text failed.BeyondMaxCapacity = codes "refused limit"
 
--- The reason that a growth failed.
 abbrev pub growth_refusal_text : ReallocationError → List ℕ
 growth_refusal_text refused.AllocError = codes "refused memory"
 growth_refusal_text refused.BeyondMaxCapacity = codes "refused limit"
 
--- The replies to calls that may change two arenas.
 abbrev pub ArenaReply : Type 0
 ArenaReply = PairReply ToolPtr ℕ Inx32 Gen32 ℕ
 
--- The text of the reply to a call.
 abbrev pub reply_text : Reply ToolPtr ℕ Inx32 Gen32 ℕ → List ℕ
 reply_text (Inserted (Ok p)) = at_text p
 reply_text (Inserted (Err error)) = refusal_text error
@@ -127,18 +119,15 @@ reply_text (Reserved (Ok done)) = codes "ok"
 reply_text (Reserved (Err error)) = growth_refusal_text error
 reply_text Set = codes "ok"
 
--- The text of the reply to a call on two arenas.
 abbrev pub pair_reply_text : ArenaReply → List ℕ
 pair_reply_text (Replied reply) = reply_text reply
 pair_reply_text (Transferred (Ok (Some p))) = at_text p
 pair_reply_text (Transferred (Ok None)) = codes "none"
 pair_reply_text (Transferred (Err error)) = growth_refusal_text error
 
--- The greatest 32-bit index.
 abbrev pub greatest_index : ℕ
 greatest_index = 0xffff_ffff
 
--- The pointers of the program, with 32-bit indexes and generations.
 abbrev pub tool_pointers : PointerKind ToolPtr Inx32 Gen32 ℕ
 tool_pointers = record {
   key = key_of;
@@ -150,11 +139,9 @@ tool_pointers = record {
   wraps = is_greatest32;
 }
 
--- A call is a step, and its response is the text of the reply.
 abbrev pub RespondsToCall : ToolArenas → ArenaCall → List ℕ → ToolArenas → Type 0
 RespondsToCall old call text new = (reply : ArenaReply) × PairStep tool_pointers old call reply new × (text ≡ pair_reply_text reply)
 
--- `other` exchanges the arenas.
 abbrev pub RespondsToOther : ToolArenas → List ℕ → ToolArenas → Type 0
 RespondsToOther old text new = (text ≡ codes "ok") × (new ≡ (old.1, old.0))
 
@@ -166,32 +153,30 @@ pub data RespondsToChain (old : ToolLinks) (p : ℕ × Gen32) (text : List ℕ) 
   walk : (links : List (ℕ × (Gen32 × LinkView ℕ))) → IsValidIn old p → IsWalkOf old p.0 links → text ≡ walk_text links → RespondsToChain old p text
   no_walk : (IsValidIn old p → ⊥) → text ≡ codes "none" → RespondsToChain old p text
 
--- The text of the old and the new pointer of a link.
+-- The old and the new pointer.
 abbrev pub move_text : ToolPtr × ToolPtr → List ℕ
 move_text m = codes " " ++ pointer_text (key_of m.0) ++ codes ">" ++ pointer_text (key_of m.1)
 
--- The end of a response, which reports an overflow of the counter.
+-- Any overflow of the counter.
 abbrev pub overflow_text : InvalidationOption Unit → List ℕ
 overflow_text (option.Success done) = []
 overflow_text (option.GenerationOverflow done) = codes " overflow"
 
--- The text of the number of links, their old and new pointers, and any overflow of the counter.
+-- The number of links, their moves, and any overflow.
 abbrev pub moves_text : List (ToolPtr × ToolPtr) → InvalidationOption Unit → List ℕ
 moves_text moves known = codes "moved " ++ decimal (length moves) ++ concat (map move_text moves) ++ overflow_text known
 
--- The text has capacity for more bytes.
 abbrev pub HasCapacityForText : String Global → List ℕ → Type 0
 HasCapacityForText text more = length (string_bytes text) + length more ≤ string_capacity text
 
--- The bytes were appended to the text, and its capacity has not shrunk.
+-- The bytes are appended, and the capacity has not shrunk.
 abbrev pub AppendsBytes : (old new : String Global) → List ℕ → Type 0
 AppendsBytes old new more = record {
   bytes : string_bytes new ≡ string_bytes old ++ more;
   capacity : string_capacity old ≤ string_capacity new;
 }
 
--- A canonical compression as a step, with the old and the new pointer of each
--- link, by increasing new index.
+-- A canonical compression, with the moves by increasing new index.
 pub record RespondsToMoves (old : ToolLinks) (reset : Bool) (text : List ℕ) (new : ToolLinks) : Type 0 where
   pub known : InvalidationOption Unit
   pub moves : List (ToolPtr × ToolPtr)
@@ -199,7 +184,6 @@ pub record RespondsToMoves (old : ToolLinks) (reset : Bool) (text : List ℕ) (n
   pub all : AreAllMoves key_of (value_view old) (link_map old) new.counter moves
   pub text_is : text ≡ moves_text moves known
 
--- The response to a command, and the arenas after it.
 abbrev pub RespondsToCommand : ToolArenas → Command → List ℕ → ToolArenas → Type 0
 RespondsToCommand old (Change call) text new = RespondsToCall old (First call) text new
 RespondsToCommand old (Arrange order) text new = (call : LinkCall) × IsArrangement order call × RespondsToCall old (First call) text new
@@ -210,13 +194,12 @@ RespondsToCommand old (Moves reset) text new = RespondsToMoves old.0 reset text 
 RespondsToCommand old Len text new = (text ≡ codes "count " ++ decimal (entry_count old.0)) × (new ≡ old)
 RespondsToCommand old Other text new = RespondsToOther old text new
 
--- The response to a line, which ends with a line feed, and the arenas after it.
+-- The response to a line, with a line feed, and the arenas after it.
 abbrev pub RespondsToLine : ToolArenas → Line → List ℕ → ToolArenas → Type 0
 RespondsToLine old Blank text new = (text ≡ []) × (new ≡ old)
 RespondsToLine old Bad text new = (text ≡ codes "bad line" ++ 10 ∷ []) × (new ≡ old)
 RespondsToLine old (Good command) text new = (words : List ℕ) × (text ≡ words ++ 10 ∷ []) × RespondsToCommand old command words new
 
--- The command makes this call.
 abbrev pub MakesCall : Command → ArenaCall → Type 0
 MakesCall (Change call) made = made ≡ First call
 MakesCall (Arrange order) made = (call : LinkCall) × IsArrangement order call × (made ≡ First call)
@@ -227,8 +210,7 @@ MakesCall command made = ⊥
 abbrev pub LeavesStep : ToolArenas → Line → ToolArenas → Type 0
 LeavesStep old line new = (command : Command) × (call : ArenaCall) × (text : List ℕ) × (line ≡ Good command) × MakesCall command call × RespondsToCall old call text new
 
--- The result of `moves F`: its response is in the text, which has capacity for a line feed. If an
--- allocation failed, nothing has changed.
+-- `moves F`: the response, with capacity for a line feed, or nothing changes.
 abbrev pub ExecutesMoves : {A E : Type 0} → Result A E → ToolLinks → Bool → String Global → ToolLinks → Type 0
 ExecutesMoves returned old reset text new = record {
   ok : OnOk returned (RespondsToMoves old reset (string_bytes text) new);
@@ -236,20 +218,18 @@ ExecutesMoves returned old reset text new = record {
   err : OnErr returned (new ≡ old);
 }
 
--- The result of a call: it is made, and its response is in the text unless an allocation failed.
+-- A call is made, and its response is in the text unless an allocation failed.
 abbrev pub ExecutesCall : {A E : Type 0} → Result A E → ToolArenas → ArenaCall → List ℕ → ToolArenas → Type 0
 ExecutesCall returned old call text new = (reply : ArenaReply) × PairStep tool_pointers old call reply new × OnOk returned (text ≡ pair_reply_text reply)
 
--- The result of `other`: its response and a line feed are in the text. If an allocation failed,
--- nothing has changed.
+-- `other`: the response and a line feed, or nothing changes.
 abbrev pub ExecutesOther : {A E : Type 0} → Result A E → ToolArenas → List ℕ → ToolArenas → Type 0
 ExecutesOther returned old text new = record {
   ok : OnOk returned ((text ≡ codes "ok\n") × (new ≡ (old.1, old.0)));
   err : OnErr returned (new ≡ old);
 }
 
--- The result of a line: its response is in the text. If an allocation failed, only a call may have
--- taken effect.
+-- The response is in the text; if an allocation failed, only a call may have taken effect.
 abbrev pub ExecutesLine : {A E : Type 0} → Result A E → ToolArenas → Line → List ℕ → ToolArenas → Type 0
 ExecutesLine returned old line text new = record {
   ok : OnOk returned (RespondsToLine old line text new);

@@ -1,4 +1,4 @@
--- The responses of the program to its whole input, and how it stops at a fault.
+-- The responses to the whole input.
 use Rattle.std.specs.Prelude.{◌≡◌, ℕ, List, [], ◌∷◌, ◌++◌, Option, Result, Ok, Err}
 use Rattle.std.specs.Io.KnownBytes.{Consumes, Appends, IsAtEnd}
 use Rattle.chain_commands.specs.declared.session.ToolError.{ToolError}
@@ -7,13 +7,12 @@ use Rattle.chain_commands.specs.Words.{lines_of, whole_lines}
 use Rattle.chain_commands.specs.Commands.{line_of}
 use Rattle.chain_commands.specs.Responses.{ToolArenas, RespondsToLine, LeavesStep}
 
--- The responses to lines, one after another, and the arenas after them.
+-- The responses to lines, and the arenas after them.
 abbrev pub Transcribes : ToolArenas → List (List ℕ) → List ℕ → ToolArenas → Type 0
 Transcribes old [] text new = (text ≡ []) × (new ≡ old)
 Transcribes old (line ∷ lines) text new = (mid : ToolArenas) × (first : List ℕ) × (rest : List ℕ) × RespondsToLine old (line_of line) first mid × Transcribes mid lines rest new × (text ≡ first ++ rest)
 
--- A complete run: nothing is left unread, and the responses to all lines are written, nothing else.
--- Readers and writers are described by their remaining and held bytes, as far as these are known.
+-- All is read, and exactly the responses to all lines are written.
 pub record TranscribesAll (old new : ToolArenas) (left left_after held held_after : Option (List ℕ)) : Type 0 where
   pub read : List ℕ
   pub text : List ℕ
@@ -22,7 +21,7 @@ pub record TranscribesAll (old new : ToolArenas) (left left_after held held_afte
   pub writes : Appends held held_after text
   pub responses : Transcribes old (lines_of read) text new
 
--- A run whose reader fails: the responses to all whole lines that were read are written.
+-- The reader fails: the responses to all whole lines read are written.
 pub record StopsReading (old new : ToolArenas) (left left_after held held_after : Option (List ℕ)) : Type 0 where
   pub read : List ℕ
   pub text : List ℕ
@@ -30,8 +29,7 @@ pub record StopsReading (old new : ToolArenas) (left left_after held held_after 
   pub writes : Appends held held_after text
   pub responses : Transcribes old (whole_lines read) text new
 
--- The complete lines of what was read: those with a line feed, and the last one too if the reader
--- is at its end. An incomplete line is not executed.
+-- The whole lines read, and the last one if the reader is at its end.
 pub data AreComplete (read : List ℕ) (left_after : Option (List ℕ)) : List (List ℕ) → Type 0 where
   by_line_feed : AreComplete read left_after (whole_lines read)
   by_the_end : IsAtEnd left_after → AreComplete read left_after (lines_of read)
@@ -42,8 +40,7 @@ pub data IsCutShort (old new : ToolArenas) : List (List ℕ) → List ℕ → Ty
   within : (responded others : List (List ℕ)) (line : List ℕ) (mid : ToolArenas) (text front rest : List ℕ)
       → Transcribes old responded text mid → RespondsToLine mid (line_of line) (front ++ rest) new → IsCutShort old new (responded ++ line ∷ others) (text ++ front)
 
--- A run whose writer fails: the arenas are as the complete lines executed so far leave them, the
--- last one included.
+-- The writer fails: the arenas are as the lines executed so far leave them.
 pub record StopsWriting (old new : ToolArenas) (left left_after held held_after : Option (List ℕ)) : Type 0 where
   pub read : List ℕ
   pub lines : List (List ℕ)
@@ -59,7 +56,7 @@ pub data TranscribesSome (old new : ToolArenas) : List (List ℕ) → List ℕ �
   after : (responded others : List (List ℕ)) (line : List ℕ) (mid : ToolArenas) (text : List ℕ)
       → Transcribes old responded text mid → LeavesStep mid (line_of line) new → TranscribesSome old new (responded ++ line ∷ others) text
 
--- A run in which an allocation fails: the responses to some first complete lines are written.
+-- An allocation fails: the responses to some first complete lines are written.
 pub record StopsForMemory (old new : ToolArenas) (left left_after held held_after : Option (List ℕ)) : Type 0 where
   pub read : List ℕ
   pub lines : List (List ℕ)

@@ -1,5 +1,4 @@
--- Lines, words, numbers and pointers in a text of bytes: 10 ends a line, 32 separates words, 46 is
--- the dot of a pointer.
+-- Lines, words, numbers and pointers in bytes: 10 ends a line, 32 separates words.
 use Rattle.std.specs.Prelude.{◌≡◌, refl, ℕ, leb, ◌-◌, ◌==◌, ◌&&◌, nat_lt, nat_le, Bool, true, false, All, ◌++◌}
 use Rattle.std.specs.Prelude.{if◌then◌else◌, List, [], ◌∷◌, length, take, slice_index, filter, Option, Some, None, IfSome, IfNone, option_and_then}
 use Rattle.std.specs.List.{slice_split, before_first, after_first}
@@ -11,17 +10,16 @@ use Rattle.arena_ptr.specs.declared.index.inx32.Inx32.{Inx32}
 use Rattle.arena_ptr.specs.declared.generation.gen32.Gen32.{Gen32}
 use Rattle.arena_ptr.specs.declared.tool_ptr.ToolPtr.{ToolPtr}
 
--- The pieces of a text between bytes `b`: at least one, and possibly empty ones.
+-- The pieces between bytes `b`, at least one, possibly empty.
 abbrev pub pieces : ℕ → List ℕ → List (List ℕ)
 pieces b text = slice_split (λ c. c == b) text
 
--- All pieces but the last.
 abbrev pub all_but_last : List (List ℕ) → List (List ℕ)
 all_but_last [] = []
 all_but_last (piece ∷ []) = []
 all_but_last (piece ∷ next ∷ others) = piece ∷ all_but_last (next ∷ others)
 
--- The lines of a text, including the possibly empty one after the last line feed.
+-- The lines, with the possibly empty one after the last line feed.
 abbrev pub lines_of : List ℕ → List (List ℕ)
 lines_of text = pieces 10 text
 
@@ -29,7 +27,6 @@ lines_of text = pieces 10 text
 abbrev pub whole_lines : List ℕ → List (List ℕ)
 whole_lines text = all_but_last (lines_of text)
 
--- A line without a carriage return at its end.
 abbrev pub without_return : List ℕ → List ℕ
 without_return line = if slice_index line (length line - 1) == 13 then take (length line - 1) line else line
 
@@ -37,27 +34,25 @@ abbrev pub is_filled : List ℕ → Bool
 is_filled [] = false
 is_filled (c ∷ bytes) = true
 
--- The words of a text: its nonempty pieces between spaces.
+-- The nonempty pieces between spaces.
 abbrev pub words_of : List ℕ → List (List ℕ)
 words_of text = filter is_filled (pieces 32 text)
 
--- The first word of a text and the rest, or `None` if there is no word.
+-- The first word and the rest, or `None` without a word.
 abbrev pub IsFirstWord : {A : Type 0} → (A → List ℕ) → Option (A × A) → List ℕ → Type 0
 IsFirstWord bytes result text = record {
   word : IfSome result (λ found. words_of text ≡ bytes found.0 ∷ words_of (bytes found.1));
   end : IfNone result (words_of text ≡ []);
 }
 
--- The byte is not `b`.
 abbrev pub IsNot : ℕ → ℕ → Type 0
 IsNot b c = (c == b) ≡ false
 
--- The first byte `b` of a text, with the parts before and after it.
 pub record EndsFirst (b : ℕ) (front text back : List ℕ) : Type 0 where
   pub parts : text ≡ front ++ b ∷ back
   pub first : All (IsNot b) front
 
--- The parts of a text before and after its first byte `b`, or `None` if there is none.
+-- The parts around the first byte `b`, or `None` without one.
 abbrev pub IsSplitAtByte : {A : Type 0} → ℕ → (A → List ℕ) → Option (A × A) → List ℕ → Type 0
 IsSplitAtByte b bytes found text = record {
   some : IfSome found (λ parts. EndsFirst b (bytes parts.0) text (bytes parts.1));
@@ -71,7 +66,7 @@ is_number word = nat_lt 0 (length word) && nat_le (length word) 10 && all_ascii_
 abbrev pub number_of : List ℕ → Option ℕ
 number_of word = if is_number word then Some (digits_value 10 word) else None
 
--- Applies `make` to a number from 1 to 4294967295, and gives `None` for any other.
+-- Applies `make` to a number from 1 to 4294967295.
 module _ {A : Type 0} (make : (n : ℕ) → IsWithin 0xffff_ffff n → A) where
   abbrev pub made_if : (n : ℕ) (low high : Bool) → leb 1 n ≡ low → leb n 0xffff_ffff ≡ high → Option A
   made_if n true true at_least at_most = Some (make n (leb-true 1 n at_least, leb-true n 0xffff_ffff at_most))
@@ -87,19 +82,15 @@ index_at n within = record { number = n; in_range = within }
 abbrev pub generation_at : (n : ℕ) → IsWithin 0xffff_ffff n → Gen32
 generation_at n within = record { number = n; in_range = within }
 
--- The index with number `n`, if `n` is from 1 to 4294967295.
 unfoldable pub index_named : ℕ → Option Inx32
 index_named n = made_of index_at n
 
--- The generation with number `n`, if `n` is from 1 to 4294967295.
 unfoldable pub generation_of : ℕ → Option Gen32
 generation_of n = made_of generation_at n
 
--- The index that a word states.
 abbrev pub index_word : List ℕ → Option Inx32
 index_word word = option_and_then index_named (number_of word)
 
--- The generation that a word states.
 abbrev pub generation_word : List ℕ → Option Gen32
 generation_word word = option_and_then generation_of (number_of word)
 
@@ -111,6 +102,6 @@ pointer_with (Some index) (Some generation) = Some (record { inx = index; genera
 abbrev pub is_dot : ℕ → Bool
 is_dot c = c == 46
 
--- The pointer that a word states: an index, a dot and a generation.
+-- An index, a dot and a generation.
 abbrev pub pointer_of : List ℕ → Option ToolPtr
 pointer_of word = pointer_with (index_word (before_first is_dot word)) (generation_word (after_first is_dot word))

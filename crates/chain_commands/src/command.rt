@@ -1,4 +1,4 @@
-//! Commands, and the parser of lines.
+//! Commands and their parser.
 ghost use Rattle.std.specs.Prelude.{◌≡◌, IfOk, bytes_eq, option_and_then, option_map};
 ghost use Rattle.chain_laws.specs.declared.insert_kind.InsertKind.TheVariants.{AtInterlink, AtInterlinkInx, Bridge, BridgeInx};
 ghost use Rattle.chain_commands.specs.Words.{generation_of, words_of};
@@ -11,45 +11,34 @@ use arena_ptr::{Gen32, Inx32, ToolPtr};
 use chain_arena::{Call, LinkInsertKind};
 use std::alloc::{AllocError, Global};
 
-/// A command with its arguments.
+/// A command.
 #[derive(Drop)]
 pub enum Command {
-    /// A call that may change the links.
     Change(Call<ToolPtr, u32>),
-    /// `arrange P Q ..`: puts links in this order.
     Arrange(Order),
-    /// `show P`: the value and the neighbors of a link.
     Show(ToolPtr),
-    /// `chain P`: the walk of a chain from a link.
     Chain(ToolPtr),
-    /// `len`: the number of links.
     Len,
-    /// `moves F`: compresses canonically and lists the old and the new pointer of each link.
+    /// Compresses canonically and lists old and new pointers.
     Moves(bool),
-    /// `transfer P`: moves a chain to the other arena.
     Transfer(ToolPtr),
-    /// `other`: makes the other arena the one of the lines that follow.
+    /// Exchanges both arenas.
     Other,
 }
 
 /// A parsed line.
 #[derive(Drop)]
 pub enum Line {
-    /// A line without words.
     Blank,
-    /// A line that is no command.
     Bad,
-    /// A command to execute.
     Good(Command),
 }
 
-/// Parses a line.
-///
-/// A line of more than 200 bytes is `Bad`. Only `arrange` allocates.
+/// Parses a line; one of more than 200 bytes is `Bad`.
 ///
 /// # Errors
 ///
-/// - `AllocError`: an allocation for an order failed.
+/// - `AllocError`: an allocation for `arrange` failed.
 pub fn parse(alloc: Global, line: &[u8]) -> Result<Line, AllocError>
     ensures { IfOk result (λ parsed. parsed ≡ line_of line.now) }
 {
@@ -66,7 +55,6 @@ pub fn parse(alloc: Global, line: &[u8]) -> Result<Line, AllocError>
     }
 }
 
-/// Parses the command with this name and these arguments.
 fn command_of(alloc: Global, name: &[u8], words: &[u8]) -> Result<Option<Command>, AllocError>
     ensures { IfOk result (λ command. command ≡ command_of name.now (words_of words.now)) }
 {
@@ -76,7 +64,6 @@ fn command_of(alloc: Global, name: &[u8], words: &[u8]) -> Result<Option<Command
     Ok(short_command(name, words))
 }
 
-/// Parses the command with this name and these arguments, except `arrange`.
 fn short_command(name: &[u8], words: &[u8]) -> Option<Command>
     ensures { result ≡ short_command name.now (words_of words.now) }
 {
@@ -113,7 +100,6 @@ fn short_command(name: &[u8], words: &[u8]) -> Option<Command>
     }
 }
 
-/// Parses the command with this name and these arguments if it is no call on one arena.
 fn remaining_command(name: &[u8], words: &[u8]) -> Option<Command>
     ensures { result ≡ remaining_command name.now (words_of words.now) }
 {
@@ -128,9 +114,7 @@ fn remaining_command(name: &[u8], words: &[u8]) -> Option<Command>
     }
 }
 
-/// Returns whether a word equals `text`.
-///
-/// For a constant text, the loop is compiled to comparisons with its bytes.
+/// With a constant `text`, this compiles to byte comparisons.
 #[inline(always)]
 fn is(word: &[u8], text: &str) -> bool
     ensures { result ≡ bytes_eq word.now text.now }
@@ -149,7 +133,6 @@ fn is(word: &[u8], text: &str) -> bool
     true
 }
 
-/// Parses an insertion: the kind of the new link, its neighbors, and its value at the end.
 fn insertion(arguments: &[u8]) -> Option<(LinkInsertKind<ToolPtr>, u32)>
     ensures { result ≡ insertion (words_of arguments.now) }
 {
@@ -165,7 +148,6 @@ fn insertion(arguments: &[u8]) -> Option<(LinkInsertKind<ToolPtr>, u32)>
     kind_between(name, first, second).zip(number(third))
 }
 
-/// Parses a kind that names no neighbor.
 fn kind_alone(name: &[u8]) -> Option<LinkInsertKind<ToolPtr>>
     ensures { result ≡ kind_alone name.now }
 {
@@ -176,7 +158,6 @@ fn kind_alone(name: &[u8]) -> Option<LinkInsertKind<ToolPtr>>
     }
 }
 
-/// Parses a kind that names one neighbor, by pointer or index.
 fn kind_beside(name: &[u8], word: &[u8]) -> Option<LinkInsertKind<ToolPtr>>
     ensures { result ≡ kind_beside name.now word.now }
 {
@@ -199,7 +180,6 @@ fn kind_beside(name: &[u8], word: &[u8]) -> Option<LinkInsertKind<ToolPtr>>
     }
 }
 
-/// Parses a kind that names two neighbors, both by pointer or both by index.
 fn kind_between(name: &[u8], first: &[u8], second: &[u8]) -> Option<LinkInsertKind<ToolPtr>>
     ensures { result ≡ kind_between name.now first.now second.now }
 {
@@ -214,7 +194,6 @@ fn kind_between(name: &[u8], first: &[u8], second: &[u8]) -> Option<LinkInsertKi
     }
 }
 
-/// Returns the kind between two neighbors.
 fn between(
     pointers: Option<(ToolPtr, ToolPtr)>,
     indexes: Option<(Inx32, Inx32)>,
@@ -231,7 +210,6 @@ fn between(
     }
 }
 
-/// Returns the kind after the end of a chain and before a start.
 fn bridge(
     pointers: Option<(ToolPtr, ToolPtr)>,
     indexes: Option<(Inx32, Inx32)>,
@@ -247,7 +225,6 @@ fn bridge(
     }
 }
 
-/// Returns `Some` if there are no arguments.
 fn no_arguments(arguments: &[u8]) -> Option<()>
     ensures { result ≡ no_arguments (words_of arguments.now) }
 {
@@ -257,7 +234,6 @@ fn no_arguments(arguments: &[u8]) -> Option<()>
     }
 }
 
-/// Parses whether a compression resets the counter.
 fn reset(arguments: &[u8]) -> Option<bool>
     ensures { result ≡ reset_of (words_of arguments.now) }
 {
@@ -268,7 +244,6 @@ fn reset(arguments: &[u8]) -> Option<bool>
     }
 }
 
-/// Parses the removal of a link, by pointer or index.
 fn removal(arguments: &[u8]) -> Option<Call<ToolPtr, u32>>
     ensures { result ≡ removal (words_of arguments.now) }
 {
@@ -279,7 +254,6 @@ fn removal(arguments: &[u8]) -> Option<Call<ToolPtr, u32>>
     }
 }
 
-/// Returns the argument if it is a single word.
 fn one_word(arguments: &[u8]) -> Option<&[u8]>
     ensures { option_map (λ word. word.now) result ≡ one_word (words_of arguments.now) }
 {
@@ -290,21 +264,18 @@ fn one_word(arguments: &[u8]) -> Option<&[u8]>
     }
 }
 
-/// Parses the arguments as one number.
 fn one_number(arguments: &[u8]) -> Option<u32>
     ensures { result ≡ one_number (words_of arguments.now) }
 {
     number(one_word(arguments)?)
 }
 
-/// Parses the arguments as one generation: a number of at least 1.
 fn one_generation(arguments: &[u8]) -> Option<Gen32>
     ensures { result ≡ option_and_then generation_of (one_number (words_of arguments.now)) }
 {
     Gen32::new(one_number(arguments)?)
 }
 
-/// Parses the arguments as one pointer.
 #[inline(always)]
 fn one_pointer(arguments: &[u8]) -> Option<ToolPtr>
     ensures { result ≡ one_pointer (words_of arguments.now) }
@@ -312,7 +283,6 @@ fn one_pointer(arguments: &[u8]) -> Option<ToolPtr>
     pointer(one_word(arguments)?)
 }
 
-/// Parses the arguments as two pointers.
 #[inline(always)]
 fn two_pointers(arguments: &[u8]) -> Option<(ToolPtr, ToolPtr)>
     ensures { result ≡ two_pointers (words_of arguments.now) }
@@ -321,7 +291,6 @@ fn two_pointers(arguments: &[u8]) -> Option<(ToolPtr, ToolPtr)>
     Some((pointer(word)?, one_pointer(rest)?))
 }
 
-/// Parses the arguments as three pointers.
 fn three_pointers(arguments: &[u8]) -> Option<(ToolPtr, (ToolPtr, ToolPtr))>
     ensures { result ≡ three_pointers (words_of arguments.now) }
 {
@@ -329,7 +298,6 @@ fn three_pointers(arguments: &[u8]) -> Option<(ToolPtr, (ToolPtr, ToolPtr))>
     Some((pointer(word)?, two_pointers(rest)?))
 }
 
-/// Parses the arguments as a pointer and a number.
 fn pointer_and_number(arguments: &[u8]) -> Option<(ToolPtr, usize)>
     ensures { result ≡ pointer_and_number (words_of arguments.now) }
 {

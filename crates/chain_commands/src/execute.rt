@@ -1,4 +1,4 @@
-//! Execution of lines: each command is one step of the arenas, one lookup, or their exchange.
+//! Execution of lines.
 ghost use Rattle.std.specs.Prelude.{OnOk, string_bytes};
 ghost use Rattle.arena_ptr.specs.ToolPtr.{key_of};
 ghost use Rattle.arena_pairs.specs.declared.calls.PairCall.TheVariants.{First, TransferToSecond};
@@ -19,9 +19,7 @@ use std::mem::swap;
 ///
 /// # Errors
 ///
-/// - `AllocError`: an allocation for an order failed; nothing has changed.
-/// - `AllocError`: an allocation for the response failed. A call may have taken effect; any other
-///   line has not.
+/// - `AllocError`: an allocation failed; only a call may have taken effect.
 pub fn respond<S: SlotStack<Item = ArenaSlot<ToolPtr, LinkNoGen<ToolPtr, u32>>>>(
     arena: &mut ChainArena<ToolPtr, u32, S>,
     other: &mut ChainArena<ToolPtr, u32, S>,
@@ -47,7 +45,6 @@ pub fn respond<S: SlotStack<Item = ArenaSlot<ToolPtr, LinkNoGen<ToolPtr, u32>>>>
     text.push_str("\n")
 }
 
-/// Makes a call on one arena and writes its response.
 #[inline(always)]
 fn make_call<S: SlotStack<Item = ArenaSlot<ToolPtr, LinkNoGen<ToolPtr, u32>>>>(
     arena: &mut ChainArena<ToolPtr, u32, S>,
@@ -61,7 +58,6 @@ fn make_call<S: SlotStack<Item = ArenaSlot<ToolPtr, LinkNoGen<ToolPtr, u32>>>>(
     push_reply(text, apply(arena, call))
 }
 
-/// Executes `transfer P` and writes its response.
 fn transfer<S: SlotStack<Item = ArenaSlot<ToolPtr, LinkNoGen<ToolPtr, u32>>>>(
     arena: &mut ChainArena<ToolPtr, u32, S>,
     other: &mut ChainArena<ToolPtr, u32, S>,
@@ -78,7 +74,6 @@ fn transfer<S: SlotStack<Item = ArenaSlot<ToolPtr, LinkNoGen<ToolPtr, u32>>>>(
     )
 }
 
-/// Executes `other`: writes its response and a line feed, and exchanges the arenas.
 fn exchange<S: SlotStack<Item = ArenaSlot<ToolPtr, LinkNoGen<ToolPtr, u32>>>>(
     arena: &mut ChainArena<ToolPtr, u32, S>,
     other: &mut ChainArena<ToolPtr, u32, S>,
@@ -93,7 +88,6 @@ fn exchange<S: SlotStack<Item = ArenaSlot<ToolPtr, LinkNoGen<ToolPtr, u32>>>>(
     Ok(())
 }
 
-/// Writes the response to `show P`.
 fn show<S: SlotStack<Item = ArenaSlot<ToolPtr, LinkNoGen<ToolPtr, u32>>>>(
     arena: &ChainArena<ToolPtr, u32, S>,
     p: ToolPtr,
@@ -108,7 +102,6 @@ fn show<S: SlotStack<Item = ArenaSlot<ToolPtr, LinkNoGen<ToolPtr, u32>>>>(
     }
 }
 
-/// Writes the response to `chain P`.
 fn chain<S: SlotStack<Item = ArenaSlot<ToolPtr, LinkNoGen<ToolPtr, u32>>>>(
     arena: &ChainArena<ToolPtr, u32, S>,
     p: ToolPtr,
@@ -123,8 +116,7 @@ fn chain<S: SlotStack<Item = ArenaSlot<ToolPtr, LinkNoGen<ToolPtr, u32>>>>(
     }
 }
 
-/// Executes `moves F` and writes its response. All memory, also for the line feed, is allocated
-/// before the arena changes.
+/// Allocates all memory, also for the line feed, first.
 fn moves<S: SlotStack<Item = ArenaSlot<ToolPtr, LinkNoGen<ToolPtr, u32>>>>(
     arena: &mut ChainArena<ToolPtr, u32, S>,
     reset: bool,

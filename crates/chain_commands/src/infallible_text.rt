@@ -1,4 +1,4 @@
-//! The response to `moves F`, written into reserved capacity without allocating.
+//! `moves F` without allocating.
 ghost use Rattle.std.specs.Prelude.{◌≡◌, ◌+◌, ◌<◌, ◌≤◌, ◌∷◌, [], List, length, map, decimal};
 ghost use Rattle.std.specs.List.{concat};
 ghost use Rattle.arena_ptr.specs.ToolPtr.{key_of};
@@ -6,8 +6,7 @@ ghost use Rattle.chain_commands.specs.Responses.{greatest_index, pointer_text, m
 
 use arena_ptr::{InvalidationOption, PtrKey, ToolPtr};
 
-/// Returns the capacity in bytes for the response to `moves F` and its line feed: 26, and 44 for
-/// each link.
+/// Returns the capacity with a line feed: 26 bytes, and 44 a link.
 pub fn moves_text_capacity(links: usize) -> usize
     requires { links ≤ greatest_index }
     ensures { (moves : List (ToolPtr × ToolPtr)) (known : InvalidationOption Unit) →
@@ -16,7 +15,6 @@ pub fn moves_text_capacity(links: usize) -> usize
     links * 44 + 26
 }
 
-/// Appends words, within the capacity.
 fn write_words(text: &mut String, words: &str)
     requires { HasCapacityForText text.old words.now }
     ensures { AppendsBytes text.old text.new words.now }
@@ -24,7 +22,6 @@ fn write_words(text: &mut String, words: &str)
     text.push_str(words).unwrap();
 }
 
-/// Appends a digit, within the capacity.
 fn write_digit(text: &mut String, digit: usize)
     requires below { digit < 10 }
     requires capacity { HasCapacityForText text.old ((48 + digit) ∷ []) }
@@ -34,7 +31,6 @@ fn write_digit(text: &mut String, digit: usize)
     text.push(letter).unwrap();
 }
 
-/// Appends a number in decimal, within the capacity.
 fn write_decimal(text: &mut String, n: usize)
     requires { HasCapacityForText text.old (decimal n) }
     ensures { AppendsBytes text.old text.new (decimal n) }
@@ -47,7 +43,6 @@ fn write_decimal(text: &mut String, n: usize)
     }
 }
 
-/// Appends a pointer, within the capacity.
 fn write_pointer(text: &mut String, p: ToolPtr)
     requires { HasCapacityForText text.old (pointer_text (key_of p)) }
     ensures { AppendsBytes text.old text.new (pointer_text (key_of p)) }
@@ -57,7 +52,6 @@ fn write_pointer(text: &mut String, p: ToolPtr)
     write_decimal(text, p.generation().get() as usize);
 }
 
-/// Appends the old and the new pointer of a link, within the capacity.
 fn write_move(text: &mut String, from: ToolPtr, to: ToolPtr)
     requires { HasCapacityForText text.old (move_text (from, to)) }
     ensures { AppendsBytes text.old text.new (move_text (from, to)) }
@@ -68,7 +62,6 @@ fn write_move(text: &mut String, from: ToolPtr, to: ToolPtr)
     write_pointer(text, to);
 }
 
-/// Appends the old and the new pointers of links, within the capacity.
 fn write_each(text: &mut String, moves: &[(ToolPtr, ToolPtr)])
     requires { HasCapacityForText text.old (concat (map move_text moves.now)) }
     ensures { AppendsBytes text.old text.new (concat (map move_text moves.now)) }
@@ -80,7 +73,6 @@ fn write_each(text: &mut String, moves: &[(ToolPtr, ToolPtr)])
     }
 }
 
-/// Returns the end of a response, which reports an overflow of the counter.
 fn overflow(known: InvalidationOption<()>) -> &'static str
     ensures { result.now ≡ overflow_text known }
 {
@@ -90,8 +82,6 @@ fn overflow(known: InvalidationOption<()>) -> &'static str
     }
 }
 
-/// Appends the number of links, their old and new pointers, and any overflow of the counter, within
-/// the capacity.
 pub fn write_moves(text: &mut String, moves: &[(ToolPtr, ToolPtr)], known: InvalidationOption<()>)
     requires { HasCapacityForText text.old (moves_text moves.now known) }
     ensures { AppendsBytes text.old text.new (moves_text moves.now known) }

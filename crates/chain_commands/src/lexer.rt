@@ -1,11 +1,10 @@
-//! The words of a line, and their values as numbers and pointers.
+//! Words of lines.
 ghost use Rattle.std.specs.Prelude.{◌≡◌};
 ghost use Rattle.chain_commands.specs.Words.{IsFirstWord, IsSplitAtByte, number_of, index_word, pointer_of};
 
 use arena_ptr::{Gen32, Inx32, PtrKey, ToolPtr};
 use memchr::memchr;
 
-/// Returns the first word of a text and the rest, or `None` if there is no word.
 #[inline(always)]
 pub fn next_word(text: &[u8]) -> Option<(&[u8], &[u8])>
     ensures { IsFirstWord (λ part. part.now) result text.now }
@@ -17,7 +16,6 @@ pub fn next_word(text: &[u8]) -> Option<(&[u8], &[u8])>
     Some(text.split_at(text.iter().take_while(|c| **c != b' ').count()))
 }
 
-/// Returns the parts of a text before and after the first such byte, or `None` if there is none.
 #[inline(always)]
 fn split_at_byte(byte: u8, text: &[u8]) -> Option<(&[u8], &[u8])>
     ensures { IsSplitAtByte byte (λ part. part.now) result text.now }
@@ -29,7 +27,7 @@ fn split_at_byte(byte: u8, text: &[u8]) -> Option<(&[u8], &[u8])>
     }
 }
 
-/// Returns the first line of a text without its line feed, and the rest, or `None` if none ends.
+/// Splits off a line without its line feed.
 pub fn next_line(text: &[u8]) -> Option<(&[u8], &[u8])>
     ensures { IsSplitAtByte 10 (λ part. part.now) result text.now }
 {
@@ -39,7 +37,7 @@ pub fn next_line(text: &[u8]) -> Option<(&[u8], &[u8])>
     }
 }
 
-/// Parses a number of 1 to 10 digits, up to 4294967295.
+/// Parses 1 to 10 digits, up to 4294967295.
 #[inline(always)]
 pub fn number(word: &[u8]) -> Option<u32>
     ensures { result ≡ number_of word.now }
@@ -57,7 +55,7 @@ pub fn number(word: &[u8]) -> Option<u32>
     u32::try_from(value).ok()
 }
 
-/// Parses an index: a number of at least 1.
+/// Parses an index of at least 1.
 #[inline(always)]
 pub fn index(word: &[u8]) -> Option<Inx32>
     ensures { result ≡ index_word word.now }
@@ -65,7 +63,7 @@ pub fn index(word: &[u8]) -> Option<Inx32>
     Inx32::new(number(word)?)
 }
 
-/// Parses a pointer: an index, a dot and a generation.
+/// Parses an index, a dot and a generation.
 #[inline(always)]
 pub fn pointer(word: &[u8]) -> Option<ToolPtr>
     ensures { result ≡ pointer_of word.now }

@@ -1,4 +1,4 @@
-//! Commands on two arenas of links, one a line: the library behind the program `chain_tool`.
+//! Commands on two arenas of links: the library of `chain_tool`.
 #![tactic(auto)]
 
 pub mod command;

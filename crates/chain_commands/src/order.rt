@@ -1,4 +1,4 @@
-//! Orders of links, and their parser.
+//! Orders of links.
 ghost use Rattle.std.specs.Prelude.{◌≡◌, IfOk, option_map};
 ghost use Rattle.chain_commands.specs.Words.{words_of};
 ghost use Rattle.chain_commands.specs.Commands.{IsArrangement, order_of, pointers_of};
@@ -9,7 +9,7 @@ use chain_arena::Call;
 use std::alloc::{AllocError, Global};
 use std::marker::Model;
 
-/// Pointers to links, in the order that the links are to have.
+/// Pointers to links, in order.
 #[derive(Drop)]
 pub struct Order {
     links: Vec<ToolPtr>,
@@ -25,11 +25,11 @@ impl Model for Order {
 }
 
 impl Order {
-    /// Parses arguments that are one or more pointers.
+    /// Parses one or more pointers.
     ///
     /// # Errors
     ///
-    /// - `AllocError`: an allocation for the pointers failed.
+    /// - `AllocError`: an allocation failed.
     pub fn parse(alloc: Global, arguments: &[u8]) -> Result<Option<Order>, AllocError>
         ensures { IfOk result (λ order. order ≡ order_of (words_of arguments.now)) }
     {
@@ -42,7 +42,7 @@ impl Order {
         }
     }
 
-    /// Returns the call that puts the links in this order.
+    /// Returns the call that arranges links.
     pub fn into_call(self) -> Call<ToolPtr, u32>
         ensures { IsArrangement self result }
     {
@@ -50,7 +50,6 @@ impl Order {
     }
 }
 
-/// Parses each word as a pointer.
 fn pointers(alloc: Global, words: &[u8]) -> Result<Option<Vec<ToolPtr>>, AllocError>
     ensures { IfOk result (λ links. option_map (λ v. v.items) links
         ≡ pointers_of (words_of words.now)) }

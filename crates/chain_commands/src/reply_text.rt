@@ -13,7 +13,6 @@ use chain_arena::{ChainIter, LinkNoGen, Reply};
 use itoa::Buffer;
 use std::alloc::AllocError;
 
-/// Appends a number to a text.
 #[inline(always)]
 fn push_number(text: &mut String, n: usize) -> Result<(), AllocError>
     ensures { OnOk result (string_bytes text.new ≡ string_bytes text.old ++ decimal n) }
@@ -21,7 +20,6 @@ fn push_number(text: &mut String, n: usize) -> Result<(), AllocError>
     text.push_str(Buffer::new().format(n))
 }
 
-/// Appends the value of a removed link to a text.
 fn push_value(text: &mut String, value: u32) -> Result<(), AllocError>
     ensures { OnOk result (string_bytes text.new ≡ string_bytes text.old ++ value_text value) }
 {
@@ -29,7 +27,6 @@ fn push_value(text: &mut String, value: u32) -> Result<(), AllocError>
     push_number(text, value as usize)
 }
 
-/// Appends a pointer to a text.
 fn push_pointer(text: &mut String, p: ToolPtr) -> Result<(), AllocError>
     ensures { OnOk result (string_bytes text.new
         ≡ string_bytes text.old ++ pointer_text (key_of p)) }
@@ -40,7 +37,6 @@ fn push_pointer(text: &mut String, p: ToolPtr) -> Result<(), AllocError>
     text.push_str(buffer.format(p.generation().get()))
 }
 
-/// Appends the new pointer of a link to a text.
 fn push_at(text: &mut String, p: ToolPtr) -> Result<(), AllocError>
     ensures { OnOk result (string_bytes text.new ≡ string_bytes text.old ++ at_text p) }
 {
@@ -48,7 +44,6 @@ fn push_at(text: &mut String, p: ToolPtr) -> Result<(), AllocError>
     push_pointer(text, p)
 }
 
-/// Appends the pointer of a neighbor to a text, or a dash if there is none.
 fn push_neighbor(text: &mut String, neighbor: Option<ToolPtr>) -> Result<(), AllocError>
     ensures { OnOk result (string_bytes text.new ≡ string_bytes text.old ++ neighbor_text
         (option_map key_of neighbor)) }
@@ -59,7 +54,6 @@ fn push_neighbor(text: &mut String, neighbor: Option<ToolPtr>) -> Result<(), All
     }
 }
 
-/// Appends the neighbors and the value of a link to a text.
 pub fn push_link(
     text: &mut String,
     prev: Option<ToolPtr>,
@@ -78,7 +72,6 @@ pub fn push_link(
     push_number(text, value as usize)
 }
 
-/// Appends the reply to a call to a text.
 #[inline(always)]
 pub fn push_reply(text: &mut String, reply: Reply<ToolPtr, u32>) -> Result<(), AllocError>
     ensures { OnOk result (string_bytes text.new ≡ string_bytes text.old ++ reply_text reply) }
@@ -110,7 +103,6 @@ pub fn push_reply(text: &mut String, reply: Reply<ToolPtr, u32>) -> Result<(), A
     }
 }
 
-/// Appends a number of links to a text.
 pub fn push_count(text: &mut String, count: usize) -> Result<(), AllocError>
     ensures { OnOk result (string_bytes text.new
         ≡ string_bytes text.old ++ (codes "count " ++ decimal count)) }
@@ -119,7 +111,6 @@ pub fn push_count(text: &mut String, count: usize) -> Result<(), AllocError>
     push_number(text, count)
 }
 
-/// Appends the value of a removed link to a text, and that the counter overflowed.
 fn push_overflown(text: &mut String, value: u32) -> Result<(), AllocError>
     ensures { OnOk result (string_bytes text.new
         ≡ string_bytes text.old ++ (value_text value ++ codes " overflow")) }
@@ -128,7 +119,6 @@ fn push_overflown(text: &mut String, value: u32) -> Result<(), AllocError>
     text.push_str(" overflow")
 }
 
-/// Appends the reply to a call on two arenas to a text.
 pub fn push_pair_reply(text: &mut String, reply: PairReply<ToolPtr, u32>) -> Result<(), AllocError>
     ensures { OnOk result (string_bytes text.new ≡ string_bytes text.old ++ pair_reply_text reply) }
 {
@@ -140,7 +130,6 @@ pub fn push_pair_reply(text: &mut String, reply: PairReply<ToolPtr, u32>) -> Res
     }
 }
 
-/// Returns the reason that an insertion failed.
 fn refusal(error: ChainInsertionError) -> &'static str
     ensures { result.now ≡ refusal_text error }
 {
@@ -152,7 +141,6 @@ fn refusal(error: ChainInsertionError) -> &'static str
     }
 }
 
-/// Returns the reason that a growth failed.
 fn growth_refusal(error: ReallocationError) -> &'static str
     ensures { result.now ≡ growth_refusal_text error }
 {
@@ -162,7 +150,6 @@ fn growth_refusal(error: ReallocationError) -> &'static str
     }
 }
 
-/// Appends the pointer and the value of a link to a text.
 fn push_passed(text: &mut String, p: ToolPtr, value: u32) -> Result<(), AllocError>
     ensures { OnOk result (string_bytes text.new ≡ string_bytes text.old ++ passed_text
         (key_of p) value) }
@@ -172,7 +159,6 @@ fn push_passed(text: &mut String, p: ToolPtr, value: u32) -> Result<(), AllocErr
     push_number(text, value as usize)
 }
 
-/// Appends the links of a walk to a text, separated by spaces.
 pub fn push_walk<S: SlotStack<Item = ArenaSlot<ToolPtr, LinkNoGen<ToolPtr, u32>>>>(
     text: &mut String,
     links: ChainIter<'_, ToolPtr, u32, S>,

@@ -1,4 +1,4 @@
-//! Runs, which read lines from a reader and write the responses to a writer.
+//! Runs of lines.
 ghost use Rattle.std.specs.Prelude.{◌≡◌, None};
 ghost use Rattle.arena_ptr.specs.Generations.{two32};
 ghost use Rattle.arena_traits.specs.Arena.{new_arena};
@@ -15,12 +15,10 @@ use chain_arena::{ChainArena, LinkNoGen};
 use std::alloc::{AllocError, Global};
 use std::io::{ErrorKind, Read, Write};
 
-/// The reason that a run stopped before the end of its input.
+/// The reason that a run stopped early.
 #[derive(Clone, Copy, Debug, PartialEq, Eq)]
 pub enum ToolError {
-    /// The reader failed.
     Read,
-    /// The writer failed.
     Write,
     /// An allocation failed.
     Memory,
@@ -34,12 +32,12 @@ impl From<AllocError> for ToolError {
     }
 }
 
-/// Writes a text to a writer, and retries interrupted writes.
+/// Retries interrupted writes.
 fn write_fully<W: Write>(writer: &mut W, text: &[u8]) -> Result<(), ToolError>
     ensures { WritesText result (W.contents writer.old) (W.contents writer.new) text.now }
 {
     let mut written = 0;
-    // Each loop is proved to end, so the tries are bounded.
+    // Bounded, to be proved to end.
     for _ in 0..u64::MAX {
         if written >= text.len() {
             return Ok(());
@@ -58,7 +56,7 @@ fn write_fully<W: Write>(writer: &mut W, text: &[u8]) -> Result<(), ToolError>
     Err(ToolError::Write)
 }
 
-/// Appends to an unfinished line, of which at most 201 bytes are kept.
+/// Keeps at most 201 bytes: a line over 200 is bad.
 fn buffer_line(line: &mut Vec<u8>, more: &[u8]) -> Result<(), ToolError>
     ensures { KeepsMore result line.old.items line.new.items more.now }
 {
@@ -67,9 +65,6 @@ fn buffer_line(line: &mut Vec<u8>, more: &[u8]) -> Result<(), ToolError>
     Ok(())
 }
 
-/// Executes a line whose beginning may have been kept and whose end is `front`.
-///
-/// If nothing was kept, the line is read in place.
 fn end_line<W: Write, S: SlotStack<Item = ArenaSlot<ToolPtr, LinkNoGen<ToolPtr, u32>>>>(
     arena: &mut ChainArena<ToolPtr, u32, S>,
     other: &mut ChainArena<ToolPtr, u32, S>,
@@ -91,8 +86,6 @@ fn end_line<W: Write, S: SlotStack<Item = ArenaSlot<ToolPtr, LinkNoGen<ToolPtr, 
     write_fully(writer, text.as_bytes())
 }
 
-/// Executes the lines that a piece of the input completes, and keeps the beginning of the next
-/// line.
 fn feed<W: Write, S: SlotStack<Item = ArenaSlot<ToolPtr, LinkNoGen<ToolPtr, u32>>>>(
     arena: &mut ChainArena<ToolPtr, u32, S>,
     other: &mut ChainArena<ToolPtr, u32, S>,
@@ -112,10 +105,9 @@ fn feed<W: Write, S: SlotStack<Item = ArenaSlot<ToolPtr, LinkNoGen<ToolPtr, u32>
     buffer_line(line, left)
 }
 
-/// Runs the lines of a reader on two arenas and writes their responses to a writer.
+/// Runs the lines of a reader and writes their responses.
 ///
-/// The commands are executed on `arena`, and `other` exchanges both. The writer is flushed before
-/// each read.
+/// The writer is flushed before each read. The command `other` exchanges the arenas.
 ///
 /// # Errors
 ///
@@ -137,7 +129,6 @@ pub fn run_on<R: Read, W: Write, S: SlotStack<Item = ArenaSlot<ToolPtr, LinkNoGe
     let mut piece = vec![in alloc; 0u8; 65536]?;
     let mut line = Vec::new(alloc);
     let mut text = String::new(alloc);
-    // Each loop is proved to end, so the reads are bounded.
     for _ in 0..u64::MAX {
         if writer.flush().is_err() {
             return Err(ToolError::Write);
@@ -154,13 +145,11 @@ pub fn run_on<R: Read, W: Write, S: SlotStack<Item = ArenaSlot<ToolPtr, LinkNoGe
     Err(ToolError::Read)
 }
 
-/// Runs the lines of a reader on two new arenas, as `run_on` does.
-///
-/// Each arena has no links, counter 2, capacity 0 and no maximum.
+/// Runs `run_on` on two new arenas.
 ///
 /// # Errors
 ///
-/// The errors are those of `run_on`.
+/// Those of `run_on`.
 pub fn run<R: Read, W: Write>(
     alloc: Global,
     reader: &mut R,

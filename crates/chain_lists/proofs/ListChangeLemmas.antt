@@ -63,7 +63,6 @@ module _ {A Gen T : Type 0} {view : A → ArenaView Gen T} {entry : A → ℕ �
       are_stored = are_stored-frame (entry old) (entry new) xs (λ i has. same i (λ is_p. absent.0 (of_chain (indexes xs) p.0 (subst (IsMember (indexes xs)) is_p has)))) is.are_stored;
     }
 
--- The link of an item was inserted.
 module _ {A Gen T : Type 0} {view : A → ArenaView Gen T} {entry : A → ℕ → Option (Gen × T)} (state : (a : A) → ArenaState (view a) (entry a)) (interlinks : A → LinkMap) (alike : (a : A) (i : ℕ) → is_some (interlinks a i) ≡ is_some (entry a i))
     (shape : List ℕ → Chain) (old new : A) (agrees : IsWellLinked (interlinks old)) (q : ℕ × Gen) (t : T) where
   module _ (gained : IsInserted (entry old) (entry new) q t) where

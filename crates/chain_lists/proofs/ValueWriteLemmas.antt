@@ -38,7 +38,6 @@ module _ {Gen T : Type 0} where
       later other (inl is) = absurd (other is)
       later other (inr h) = h
 
-  -- Items stay stored after writing the value at an index.
   module _ (old new : ℕ → Option (Gen × T)) (i : ℕ) (t : T) (there : new i ≡ option_map (valued t) (old i)) (rest : (k : ℕ) → k ≢ i → new k ≡ old k) where
     pub are_stored-written : (es : List (Item Gen T)) → AreDistinct (indexes es) → AreEntries old es → AreEntries new (with_replacement i (valued t) es)
     are_stored-written [] once are_stored = tt
@@ -60,7 +59,6 @@ module _ {Gen T : Type 0} where
         (λ other. ap is_some (rest k other))
         (cases_eq k i)
 
--- A value written in an arena.
 module _ {A Gen T : Type 0} {view : A → ArenaView Gen T} {entry : A → ℕ → Option (Gen × T)} (state : (a : A) → ArenaState (view a) (entry a)) (interlinks : A → LinkMap)
     (shape : List ℕ → Chain) (written : (xs : List ℕ) → items (shape xs) ≡ xs) (a b : A) (i : ℕ) (t : T) (was : view b ≡ view_with_value (view a) i t) where
   elsewhere : (es : List (Item Gen T)) → (IsMember (indexes es) i → ⊥) → AreEntries (entry a) es → AreEntries (entry b) es

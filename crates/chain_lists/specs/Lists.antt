@@ -1,4 +1,4 @@
--- Lists of items stored in an arena: texts (linear) and rings (cyclic).
+-- Lists of items in an arena.
 use Rattle.std.specs.Prelude.{◌≡◌, ◌≢◌, ◌↔◌, ℕ, ◌+◌, List, [], ◌∷◌, ◌++◌, map, IsSome, IfSome, OnErr, Option, None, Some, Result}
 use Rattle.std.specs.Borrow.{Bor}
 use Rattle.arena_core.specs.PointerKinds.{PointerKind}
@@ -12,7 +12,7 @@ use Rattle.arena_traits.specs.CallOutcomes.{IsEntryInserted, IsEntryRemoved}
 use Rattle.arena_traits.specs.Growth.{IsGrowthResult, RefusesOneMore, GrowsForOneMore}
 use Rattle.chain_links.specs.Insertions.{IsInsertionResult}
 
--- An item: its pointer's index and generation, and its value.
+-- An index, a generation and a value.
 abbrev pub Item : Type 0 → Type 0 → Type 0
 Item Gen T = (ℕ × Gen) × T
 
@@ -25,21 +25,20 @@ module _ {Gen T : Type 0} where
   AreEntries entry [] = Unit {0}
   AreEntries entry (e ∷ items) = (entry e.0.0 ≡ Some (e.0.1, e.1)) × AreEntries entry items
 
-  -- The value of the item of `p` is read, if `p` is valid.
+  -- The value of the item of `p`, if `p` is valid.
   abbrev pub ReadsItem : (ℕ → Option (Gen × T)) → ℕ × Gen → Option (Bor T) → Type 0
   ReadsItem entry p result = record {
     some : IsSome result ↔ IsValid entry p;
     value : IfSome result (λ t. entry p.0 ≡ Some (p.1, t.now));
   }
 
--- An arena is seen by its state and its interlinks.
 module _ {A Gen T : Type 0} {view : A → ArenaView Gen T} {entry : A → ℕ → Option (Gen × T)} (state : (a : A) → ArenaState (view a) (entry a)) (interlinks : A → LinkMap) where
-  -- The items are stored in the arena as exactly one chain, linear or cyclic by `shape`.
+  -- The items are exactly one chain of the arena, by `shape`.
   pub record IsListOf (shape : List ℕ → Chain) (arena : A) (items : List (Item Gen T)) : Type 0 where
     pub chain : IsChain (interlinks arena) (shape (indexes items))
     pub are_stored : AreEntries (entry arena) items
 
-  -- A text is a linear list, from start to end; a ring is a cyclic one, listed from any item.
+  -- A text is a linear list; a ring is a cyclic one, from any item.
   abbrev pub IsText : A → List (Item Gen T) → Type 0
   IsText = IsListOf linear
 
@@ -47,30 +46,29 @@ module _ {A Gen T : Type 0} {view : A → ArenaView Gen T} {entry : A → ℕ �
   IsRing = IsListOf cyclic
 
   module _ (shape : List ℕ → Chain) (old new : A) where
-    -- Every list that contains none of these pointers is unchanged.
     abbrev pub KeepsWithout : List (ℕ × Gen) → Type 0
     KeepsWithout pointers = (items : List (Item Gen T)) → IsDisjointFrom (shape (indexes items)) (map (λ (p : ℕ × Gen). p.0) pointers) → IsListOf shape old items → IsListOf shape new items
 
-    -- Item `e` is inserted directly after `p` in its list, or before it.
+    -- `e` is inserted directly after `p` in its list.
     abbrev pub InsertsAfter : ℕ × Gen → Item Gen T → Type 0
     InsertsAfter p e = (t : T) (before after : List (Item Gen T)) → IsListOf shape old (before ++ (p, t) ∷ after) → IsListOf shape new (before ++ (p, t) ∷ e ∷ after)
 
     abbrev pub InsertsBefore : ℕ × Gen → Item Gen T → Type 0
     InsertsBefore p e = (t : T) (before after : List (Item Gen T)) → IsListOf shape old (before ++ (p, t) ∷ after) → IsListOf shape new (before ++ e ∷ (p, t) ∷ after)
 
-    -- Item `e` is removed from its list; nothing is stated of a list that had no other item.
+    -- `e` is removed from its list; nothing is stated if it was the only item.
     abbrev pub IsRemovedFromList : Item Gen T → Type 0
     IsRemovedFromList e = (before after : List (Item Gen T)) → IsListOf shape old (before ++ e ∷ after) → before ++ after ≢ [] → IsListOf shape new (before ++ after)
 
 module _ {A Gen T : Type 0} {view : A → ArenaView Gen T} {entry : A → ℕ → Option (Gen × T)} (state : (a : A) → ArenaState (view a) (entry a)) (interlinks : A → LinkMap) (shape : List ℕ → Chain) where
   module _ (old new : A) where
-    -- Only lists that contain one of these pointers change. The entries and the view stay.
+    -- Only lists with these pointers change; entries and view stay.
     pub record ChangesOnlyListsOf (pointers : List (ℕ × Gen)) : Type 0 where
       pub others : KeepsWithout state interlinks shape old new pointers
       pub entries : entry new ≡ entry old
       pub view_after : view new ≡ view old
 
-    -- The item of `p` has the value `t`; all pointers and the order of each list are unchanged.
+    -- The item of `p` has the value `t`; pointers and lists stay.
     pub record HasNewValue (p : ℕ × Gen) (t : T) : Type 0 where
       pub list : (s : T) (before after : List (Item Gen T)) → IsListOf state interlinks shape old (before ++ (p, s) ∷ after)
           → IsListOf state interlinks shape new (before ++ (p, t) ∷ after)
@@ -78,24 +76,21 @@ module _ {A Gen T : Type 0} {view : A → ArenaView Gen T} {entry : A → ℕ �
       pub view_after : view new ≡ view_with_value (view old) p.0 t
       pub links : interlinks new ≡ interlinks old
 
-    -- Item `e` is stored in a list, next to the items `beside`.
+    -- `e` is stored in a list, next to the items `beside`.
     pub record IsItemInserted (list_after : Type 0) (beside : List (ℕ × Gen)) (e : Item Gen T) : Type 0 where
       pub list : list_after
       pub item : IsEntryInserted state old e.1 e.0 new
       pub others : KeepsWithout state interlinks shape old new beside
 
-    -- Item `e` is the only one of a new list.
     abbrev pub IsItemStarted : Item Gen T → Type 0
     IsItemStarted e = IsItemInserted (IsListOf state interlinks shape new (e ∷ [])) [] e
 
-    -- Item `e` is inserted directly after `p`, or directly before it.
     abbrev pub IsItemAfter : ℕ × Gen → Item Gen T → Type 0
     IsItemAfter p e = IsItemInserted (InsertsAfter state interlinks shape old new p e) (p ∷ []) e
 
     abbrev pub IsItemBefore : ℕ × Gen → Item Gen T → Type 0
     IsItemBefore p e = IsItemInserted (InsertsBefore state interlinks shape old new p e) (p ∷ []) e
 
-    -- Item `e` is removed from the arena and from its list.
     pub record IsItemRemoved {P I W : Type 0} (pointers : PointerKind P I Gen W) (e : Item Gen T) : Type 0 where
       pub removed : IsEntryRemoved state pointers old e.0.0 e.0.1 e.1 new
       pub list : IsRemovedFromList state interlinks shape old new e
@@ -105,14 +100,14 @@ module _ {A Gen T : Type 0} {view : A → ArenaView Gen T} {entry : A → ℕ �
       pub size : count (view old) ≡ count (view new) + 1
 
   module _ {P : Type 0} (key : P → ℕ × Gen) (greatest : ℕ) where
-    -- A new list of the value `t` begins, after a growth if the arena was full.
+    -- A new list of `t` begins, or the arena could not grow.
     abbrev pub StartsList : A → T → Result P ReallocationError → A → Type 0
     StartsList old t result new = record {
       outcome : IsGrowthResult (RefusesOneMore (view old)) (λ q. IsItemStarted old new (key q, t) × GrowsForOneMore greatest (view old) (view new)) result;
       err : OnErr result (new ≡ old);
     }
 
-    -- The value `t` is inserted directly after `p`, or directly before it, after such a growth.
+    -- `t` is inserted directly after `p`, or refused.
     abbrev pub InsertsItemAfter : A → ℕ × Gen → T → Result P ChainInsertionError → A → Type 0
     InsertsItemAfter old p t result new = record {
       outcome : IsInsertionResult (IsValid (entry old) p) (RefusesOneMore (view old)) (λ q. IsItemAfter old new p (key q, t) × GrowsForOneMore greatest (view old) (view new)) result;

@@ -1,4 +1,4 @@
--- The outcomes of calls on the size of any arena of links.
+-- Calls on the size of an arena.
 use Rattle.std.specs.Prelude.{◌≡◌, ℕ, ◌+◌, ◌≤◌, [], OnErr, Option, Result}
 use Rattle.arena_core.specs.SlotStack.{IsWithinMaximum}
 use Rattle.arena_core.specs.declared.errors.ReallocationError.{ReallocationError}
@@ -7,20 +7,19 @@ use Rattle.arena_traits.specs.Entries.{ArenaView, ArenaState, count}
 use Rattle.arena_traits.specs.Growth.{Reserves}
 
 module _ {Gen T : Type 0} (s : ArenaView Gen T) where
-  -- `new`: there are no entries, and there is no capacity.
   abbrev pub StartsEmpty : Type 0
   StartsEmpty = record { entries : s.entries ≡ []; capacity : s.capacity ≡ 0 }
 
-  -- `len`: the number of entries, which is at most the capacity.
+  -- `len`: the number of entries, within the capacity.
   abbrev pub CountsEntries : ℕ → Type 0
   CountsEntries result = record { count : result ≡ count s; fits : result ≤ s.capacity }
 
-  -- `capacity`: the capacity, which is within the greatest index and the maximum.
+  -- `capacity`: within the greatest index and the maximum.
   abbrev pub ReportsCapacity : ℕ → ℕ → Type 0
   ReportsCapacity greatest result = record { value : result ≡ s.capacity; limits : (result ≤ greatest) × IsWithinMaximum s.maximum result }
 
 module _ {A Gen T : Type 0} {view : A → ArenaView Gen T} {entry : A → ℕ → Option (Gen × T)} (state : (a : A) → ArenaState (view a) (entry a)) (interlinks : A → LinkMap) where
-  -- `reserve`: capacity for so many more entries is reserved, and the entries and links stay.
+  -- `reserve`: capacity for so many more entries; entries and links stay.
   abbrev pub ReservesMore : ℕ → ℕ → A → Result Unit ReallocationError → A → Type 0
   ReservesMore greatest additional old result new = record {
     outcome : Reserves greatest (count (view old) + additional) (view old) result (view new);

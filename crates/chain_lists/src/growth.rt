@@ -1,4 +1,4 @@
-//! `reserve` for any arena of links.
+//! `reserve` for arenas of links.
 
 ghost use Rattle.std.specs.Prelude.{◌+◌, OnOk};
 ghost use Rattle.arena_traits.specs.Entries.{count};
@@ -8,8 +8,6 @@ use arena_ptr::{InxKey, PtrKey, ReallocationError};
 use chain_traits::ChainArenaTrait;
 
 /// Reserves capacity for at least `additional` more entries.
-///
-/// Does nothing if the capacity suffices.
 ///
 /// # Errors
 ///
@@ -29,7 +27,7 @@ pub fn reserve<P: PtrKey, T: Drop, A: ChainArenaTrait<P, T>>(
     match arena.len().checked_add(additional) {
         Some(n) => arena.reallocate_min_capacity(n),
         None => {
-            // No capacity suffices, since each is a `usize`.
+            // No `usize` suffices.
             arena.capacity();
             match arena.max_capacity() {
                 Some(_) => Err(ReallocationError::BeyondMaxCapacity),

@@ -1,6 +1,4 @@
-//! Lists of items stored in any arena of links, linear or cyclic, as words of contracts.
-//!
-//! `polygons` and `chain_examples` state their contracts by them. The only call is `reserve`.
+//! Lists in any arena of links, as words of contracts.
 #![tactic(auto)]
 
 mod growth;

@@ -22,7 +22,6 @@ none_stored {X} n (suc k) = by n k where
   by (suc m) (suc j) = by m j
 
 module _ {P Gen : Type 0} (key : P → ℕ × Gen) where
-  -- The old index of a move.
   abbrev pub from_index : P × P → ℕ
   from_index m = (key m.0).0
 
@@ -35,15 +34,12 @@ module _ {P Gen : Type 0} (key : P → ℕ × Gen) where
       ∙ (subst (λ (j : ℕ). slice_set noted k (Some (stored_for key m)) ≡ with_slot noted j (Some (stored_for key m))) index refl
       ∙ (ap (with_move key noted) is ∙ sym (fold_more (with_move key) table moves i m below)))
 
-  -- A table of `n` entries has one for each move.
   abbrev pub HasPlaces : ℕ → List (P × P) → Type 0
   HasPlaces n = AllByRecursion (λ m. (1 ≤ from_index m) × (from_index m ≤ n))
 
-  -- What is stored at an index is stored for a move from there.
   abbrev pub IsStoredFor : List (P × P) → ℕ → Gen × P → Type 0
   IsStoredFor moves i e = (m : P × P) × Contains moves m × (from_index m ≡ i) × (stored_for key m ≡ e)
 
-  -- The table has each move at its old index, and nothing else.
   pub record IsTable (moves : List (P × P)) (table : List (Option (Gen × P))) : Type 0 where
     pub has : (m : P × P) → Contains moves m → slot_at table (from_index m) ≡ Some (stored_for key m)
     pub only : (i : ℕ) (e : Gen × P) → slot_at table i ≡ Some e → IsStoredFor moves i e

@@ -1,7 +1,4 @@
-//! Renumbering of all links of an arena, which reports the new pointer of each link.
-//!
-//! `renumber` arranges the chains one after another from index 1. The `Renumbering` that it returns
-//! gives the new pointer for an old one in O(1).
+//! Renumbering of all links, with the new pointer of each.
 #![tactic(auto)]
 
 mod renumber_trait;

@@ -1,4 +1,4 @@
-//! The trait of arenas of links that can be renumbered.
+//! The trait of renumberings.
 
 ghost use Rattle.std.specs.Prelude.{◌≡◌, IfOk, OnErr};
 ghost use Rattle.chain_renumbering.specs.MoveTables.{new_key_of};
@@ -13,13 +13,13 @@ use std::alloc::{AllocError, Global};
 
 /// An arena of links that can be renumbered.
 ///
-/// Not in `triple_arena`, whose `compress_canonical` does not return the new pointers.
+/// Not in `triple_arena`.
 pub trait RenumberChainArenaTrait<P: PtrKey, T: Drop>: ChainArenaTrait<P, T> {
-    /// Renumbers all links as `compress_canonical` does, and returns the new pointer of each.
+    /// Renumbers all links, as the function `renumber` does.
     ///
     /// # Errors
     ///
-    /// - `AllocError`: an allocation failed. The arena is unchanged.
+    /// - `AllocError`: an allocation failed. Nothing changes then.
     fn renumber(&mut self, alloc: Global) -> Result<Renumbering<P>, AllocError>
         ensures renumbered { IfOk result (λ moved. IsRenumbered P.Gen.first P.Gen.following
             Self.view Self.entry Self.interlinks self.old self.new

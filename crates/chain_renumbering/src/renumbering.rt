@@ -1,4 +1,4 @@
-//! Renumbering of all links, and the new pointer of each.
+//! Renumbering of all links.
 
 ghost use Rattle.std.specs.Prelude.{◌≡◌, ◌≤◌, ◌+◌, length, replicate, OnOk, OnErr, IfOk, All, false, None};
 ghost use Rattle.std.specs.Option.{option_map};
@@ -13,13 +13,10 @@ use chain_arena::{ChainArena, LinkNoGen};
 use std::alloc::{AllocError, Global};
 use std::marker::Model;
 
-/// The new pointer of each link that `renumber` moved.
-///
-/// Contracts see the table of moves, in which `new_key_of` looks up the index and generation of a new
-/// pointer by those of the old one.
+/// The new pointers of renumbered links.
 #[derive(Drop)]
 pub struct Renumbering<P: PtrKey> {
-    // At the index of each old pointer, its generation and the new pointer.
+    // By old index less 1: old generation and new pointer.
     table: Vec<Option<(P::Gen, P)>>,
 }
 
@@ -32,9 +29,7 @@ impl<P: PtrKey> Model for Renumbering<P> {
 }
 
 impl<P: PtrKey> Renumbering<P> {
-    /// Returns the new pointer of the link of `p`, or `None` if `p` was not valid before.
-    ///
-    /// Takes O(1).
+    /// Returns the new pointer of `p` in O(1), if `p` was valid.
     pub fn new_pointer(&self, p: P) -> Option<P>
         ensures { option_map P.key result ≡ new_key_of P.key P.Gen.same self.now (P.key p) }
     {
@@ -45,17 +40,13 @@ impl<P: PtrKey> Renumbering<P> {
     }
 }
 
-/// Renumbers all links as `compress_canonical` does, and returns the new pointer of each.
+/// Renumbers all links as `compress_canonical` does, in time linear in the slots (not proved).
 ///
-/// The chains are arranged one after another from index 1, each in one run of indexes. Values stay
-/// at their links. No old pointer may be used again: it may point to another link once the
-/// generation counter wraps.
-///
-/// Takes time linear in the slots; no clause states this.
+/// Returns the new pointers. Old ones may point to other links once the counter wraps.
 ///
 /// # Errors
 ///
-/// - `AllocError`: an allocation failed. The arena is unchanged.
+/// - `AllocError`: an allocation failed. Nothing changes then.
 pub fn renumber<P: PtrKey, T: Drop, S: SlotStack<Item = ArenaSlot<P, LinkNoGen<P, T>>>>(
     arena: &mut ChainArena<P, T, S>,
     alloc: Global,
@@ -73,11 +64,6 @@ pub fn renumber<P: PtrKey, T: Drop, S: SlotStack<Item = ArenaSlot<P, LinkNoGen<P
     }
 }
 
-/// Returns a table with `n` empty entries.
-///
-/// # Errors
-///
-/// - `AllocError`: an allocation failed.
 fn empty_table<P: PtrKey>(alloc: Global, n: usize) -> Result<Vec<Option<(P::Gen, P)>>, AllocError>
     ensures { IfOk result (λ table. table.items ≡ replicate n None) }
 {
@@ -86,7 +72,6 @@ fn empty_table<P: PtrKey>(alloc: Global, n: usize) -> Result<Vec<Option<(P::Gen,
     Ok(table)
 }
 
-/// Returns the position of a pointer in a table: its index less 1.
 fn place_of<P: PtrKey>(p: P) -> usize
     ensures { result + 1 ≡ (P.key p).0 }
 {
@@ -96,7 +81,6 @@ fn place_of<P: PtrKey>(p: P) -> usize
     }
 }
 
-/// Writes each move into the table, at the position of its old pointer.
 fn fill_table<P: PtrKey>(table: &mut [Option<(P::Gen, P)>], moves: &[(P, P)])
     requires { All (λ m. (P.key m.0).0 ≤ length table.old) moves.now }
     ensures { table.new ≡ with_moves P.key table.old moves.now }
@@ -106,7 +90,6 @@ fn fill_table<P: PtrKey>(table: &mut [Option<(P::Gen, P)>], moves: &[(P, P)])
     }
 }
 
-/// Returns the renumbering with these moves, in an empty table.
 fn renumbering_of<P: PtrKey>(table: Vec<Option<(P::Gen, P)>>, moves: &[(P, P)]) -> Renumbering<P>
     requires { All (λ m. (P.key m.0).0 ≤ length table.items) moves.now }
     ensures { result ≡ with_moves P.key table.items moves.now }

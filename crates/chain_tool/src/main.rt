@@ -1,4 +1,4 @@
-//! A program that executes lines of commands on a chain arena and writes their responses.
+//! A program that executes commands on a chain arena.
 #![tactic(auto)]
 
 mod status;

@@ -18,7 +18,6 @@ pub on_err : {T E P : Type 0} (r : Result T E) → P → OnErr r P
 on_err (Ok x) p = tt
 on_err (Err e) p = p
 
--- The classes of a map of words and an arena.
 abbrev pub seen : {P Gen S : Type 0} → (P → ℕ × Gen) → HashMap (String Global) P S → Surjection Gen (String Global) Unit → WordClasses Gen
 seen key m s = record { table = table_of key m; arena = s }
 
@@ -30,7 +29,6 @@ module _ {P Gen S : Type 0} (key : P → ℕ × Gen) (m n : HashMap (String Glob
     pub reordered_kept : AreKept (seen key m s) (seen key n t)
     reordered_kept = are_kept (seen key m s) (seen key n t) (pointers_same key m n reordered) keys agree
 
-  -- The map is reordered, and a word inserted.
   module _ (o : HashMap (String Global) P S) (is : IsSurjection s) (entry k : String Global) (word : List ℕ) (entry_is : string_bytes entry ≡ word) (key_is : string_bytes k ≡ word) (unknown : pointer_in (table_of key m) word ≡ None)
       (p : P) (added : IsSetAdded s t k tt (key p)) (updates : UpdatesBy string_eq (λ x. bytes_eq (string_bytes entry) (string_bytes x)) n o (Some p)) where
     same : string_bytes entry ≡ string_bytes k
@@ -60,7 +58,6 @@ key_taken following wraps s t p (Success e) outcome valid = (e.0, e.1, outcome.1
 key_taken following wraps s t p (GenerationOverflow e) outcome valid = (e.0, e.1, outcome.1)
 key_taken following wraps s t p InvalidPtr outcome valid = absurd (outcome valid)
 
--- A word is removed.
 module _ {P Gen S : Type 0} (key : P → ℕ × Gen) (following : Gen → Gen) (wraps : Gen → Bool) (m n : HashMap (String Global) P S) (s t : Surjection Gen (String Global) Unit) (agree : Agree (table_of key m) s) (ascends : AscendsFrom 1 s.keys.entries) (word : List ℕ)
     (updates : UpdatesBy string_eq (λ x. bytes_eq word (string_bytes x)) m n None) (p : P) (found : get_by_text m word ≡ Some p) (result : InvalidationResult (String Global × Option Unit))
     (outcome : ReportsOverflow wraps s.keys.counter (IsKey s (key p) → ⊥) (λ e. IsKeyTaken s t following (key p) e.0 e.1) result) where
@@ -82,7 +79,6 @@ absence_drops {P} {Gen} key m n s word same absent =
     let tables = ap (map (λ (e : String Global × P). (string_bytes e.0, key e.1))) same in
     subst (λ (table : List (List ℕ × (ℕ × Gen))). IsDropped (seen key m s) (record { table = table; arena = s }) word) (sym tables) (unknown_dropped (seen key m s) word unknown)
 
--- The sets of two words are united, or are no two sets.
 module _ {P Gen S : Type 0} (key : P → ℕ × Gen) (following : Gen → Gen) (m : HashMap (String Global) P S) (s t : Surjection Gen (String Global) Unit) (agree : Agree (table_of key m) s) (is : IsSurjection s) (p q : P) where
   pub union_agrees : (o : Option (Unit × P)) → UnitesSets key following s p q o t → IfNone o (t ≡ s) → Agree (table_of key m) t
   union_agrees None outcome stays = subst (Agree (table_of key m)) (sym stays) agree
@@ -93,7 +89,6 @@ module _ {P Gen S : Type 0} (key : P → ℕ × Gen) (following : Gen → Gen) (
   union_unites None outcome stays a b at_a at_b = subst (λ (u : Surjection Gen (String Global) Unit). AreUnited (seen key m s) (seen key m u) a b false) (sym stays) (stay_united (seen key m s) agree a b (key p) (key q) at_a at_b outcome)
   union_unites (Some e) outcome stays a b at_a at_b = are_united following (seen key m s) (seen key m t) (λ x. refl) agree is (key p) (key q) (key e.1) outcome a b at_a at_b
 
--- Words by what a lookup found.
 module _ {P Gen : Type 0} (key : P → ℕ × Gen) (c : WordClasses Gen) (a : List ℕ) where
   pub found_here : (o : Option P) (p : P) → option_map key o ≡ pointer_of c a → o ≡ Some p → pointer_of c a ≡ Some (key p)
   found_here o p reads is = sym reads ∙ ap (option_map key) is

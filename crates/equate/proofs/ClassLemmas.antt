@@ -17,11 +17,9 @@ some_of (Some x) is = (x, refl)
 pub same_pair : {Gen : Type 0} (p q : ℕ × Gen) → p.0 ≡ q.0 → p.1 ≡ q.1 → p ≡ q
 same_pair {Gen} p q same also = ap (λ (i : ℕ). (i, p.1)) same ∙ ap (λ (g : Gen). (q.0, g)) also
 
--- The generation and the bytes of the key of an entry.
 abbrev pub word_in : {Gen : Type 0} → Option (Gen × (String Global × (ℕ × Gen))) → Option (Gen × List ℕ)
 word_in {Gen} o = option_map (λ (e : Gen × String Global). (e.0, string_bytes e.1)) (option_map (λ (e : Gen × (String Global × (ℕ × Gen))). (e.0, e.1.0)) o)
 
--- The set of an entry.
 abbrev pub set_in : {Gen : Type 0} → Option (Gen × (String Global × (ℕ × Gen))) → Option (ℕ × Gen)
 set_in {Gen} o = option_map (λ (e : Gen × (String Global × (ℕ × Gen))). e.1.1) o
 
@@ -41,7 +39,6 @@ module _ {Gen : Type 0} (s : Surjection Gen (String Global) Unit) where
       by (Some e) is at = (e.1.0, e.1.1, is ∙ ap (λ h. Some (h, e.1)) (ap (λ x. x.0) (same_some (e.0, string_bytes e.1.0) (g, word) at)))
 
 module _ {Gen : Type 0} (c : WordClasses Gen) where
-  -- The word is known, and in the set w.
   abbrev pub IsIn : List ℕ → ℕ × Gen → Type 0
   IsIn x w = (p : ℕ × Gen) × (pointer_of c x ≡ Some p) × (set_at c.arena p.0 ≡ Some w)
 
@@ -86,7 +83,6 @@ module _ {Gen : Type 0} (c : WordClasses Gen) where
     either_equal a b x equal (inr (inl is)) = subst (λ y. AreEqual c a y) (sym is) equal
     either_equal a b x equal (inr (inr of_b)) = equal_trans a b x equal of_b
 
--- Words with the same pointers, in an arena with the same keys, are kept.
 module _ {Gen : Type 0} (old new : WordClasses Gen) (pointers : (x : List ℕ) → pointer_of new x ≡ pointer_of old x) (keys : new.arena.keys.entries ≡ old.arena.keys.entries) (agree : Agree old.table old.arena) where
   same_entry : (i : ℕ) → entry_in new.arena.keys i ≡ entry_in old.arena.keys i
   same_entry i = ap (found i) keys

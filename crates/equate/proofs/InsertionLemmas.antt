@@ -104,7 +104,6 @@ module _ {Gen : Type 0} (old new : WordClasses Gen) (agree : Agree old.table old
     kept = λ x y known_x known_y. (λ equal. still x y known_x (to_old x y equal), λ equal. to_new x y (inl equal));
   }
 
--- A word that is known stays.
 module _ {Gen : Type 0} (c : WordClasses Gen) (agree : Agree c.table c.arena) (a : List ℕ) (p : ℕ × Gen) (here : pointer_of c a ≡ Some p) where
   known_equal : (x y : List ℕ) → AreEqual c x y ⊎ ((x ≡ a) × (y ≡ a)) → AreEqual c x y
   known_equal x y (inl equal) = equal

@@ -121,7 +121,6 @@ module _ {Gen : Type 0} (following : Gen → Gen) (old new : WordClasses Gen) (p
   pub united_agree : (p q r : ℕ × Gen) → SetsAreUnited old.arena new.arena following p q tt r → Agree new.table new.arena
   united_agree p q r united = ⊎_elim (λ (larger : _). same_keys_agree larger.1.keys) (λ (smaller : _). same_keys_agree smaller.1.keys) united.absorbed
 
--- Words of one set stay as they are.
 module _ {Gen : Type 0} (c : WordClasses Gen) (agree : Agree c.table c.arena) (a b : List ℕ) (p q : ℕ × Gen) (at_a : pointer_of c a ≡ Some p) (at_b : pointer_of c b ≡ Some q)
     (one : (v w : ℕ × Gen) → ((k : String Global) × (entry_in c.arena.keys p.0 ≡ Some (p.1, (k, v)))) → ((k : String Global) × (entry_in c.arena.keys q.0 ≡ Some (q.1, (k, w)))) → v ≡ w) where
   equal : AreEqual c a b

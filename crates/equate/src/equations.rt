@@ -1,4 +1,4 @@
-//! Words in classes of equal words.
+//! Words in classes.
 ghost use Rattle.std.specs.Prelude.{◌≡◌, ◌↔◌, List, ℕ, Some, None, IsTrue, IsSome, IfSome, IfOk, OnOk, OnErr, string_bytes};
 ghost use Rattle.std.specs.Option.{option_map};
 ghost use Rattle.equate.specs.WordClasses.{AreEqual, AreKept, AreUnited, IsDropped, IsInClassOf, IsInterned, IsKnown, JoinsClasses, KeepsClasses, KeepsPointers, ListsClass, pointer_of};
@@ -11,10 +11,7 @@ use std::collections::HashMap;
 use std::marker::Model;
 use surject_arena::{Counted, KeySet, Member, SurjectArena};
 
-/// Words in classes of equal words, over any arena of links and any plain arena.
-///
-/// Contracts see a record `WordClasses`: the pointer of each known word, and the arena. A word has
-/// a pointer exactly if the key of that pointer is the word.
+/// Words in classes of equal words.
 #[derive(Drop)]
 pub struct Equations<
     P: PtrKey,
@@ -45,7 +42,6 @@ impl<
     A: ChainArenaTrait<P, Member<P, String>> + Drop,
     B: PlainArenaTrait<P, Counted<()>> + Drop,
 > Equations<P, A, B> {
-    /// Returns equations without words, without allocating.
     pub fn new(alloc: Global) -> Self
         ensures { (word : List ℕ) → pointer_of result word ≡ None }
     {
@@ -56,14 +52,13 @@ impl<
         }
     }
 
-    /// Returns whether a word is known.
     pub fn contains(&self, word: &str) -> bool
         ensures { IsTrue result ↔ IsKnown self.now word.now }
     {
         self.pointer(word).is_some()
     }
 
-    /// Returns whether two words are equal, or `None` if one of them is not known.
+    /// Returns whether two words are equal, if both are known.
     pub fn are_equal(&self, a: &str, b: &str) -> Option<bool>
         ensures known { IsSome result ↔ (IsKnown self.now a.now × IsKnown self.now b.now) }
         ensures equal { IfSome result (λ equal. IsTrue equal ↔ AreEqual self.now a.now b.now) }
@@ -74,8 +69,7 @@ impl<
         }
     }
 
-    /// Returns an iterator over the pointers of the words in the class of `a`, each once and
-    /// beginning with `a`, or `None` if `a` is not known.
+    /// Returns the pointers of the class of `a`, from `a` on, if known.
     pub fn class(&self, a: &str) -> Option<KeySet<'_, P, String, A>>
         ensures known { IsSome result ↔ IsKnown self.now a.now }
         ensures listed { IfSome result (ListsClass self.now a.now) }
@@ -86,7 +80,6 @@ impl<
         }
     }
 
-    /// Returns the word that has a pointer, or `None` if there is none.
     pub fn word(&self, p: P) -> Option<&String>
         ensures { IfSome result (λ word. pointer_of self.now (string_bytes word.now)
             ≡ Some (P.key p)) }
@@ -94,14 +87,11 @@ impl<
         self.words.get_key(p)
     }
 
-    /// Makes two words equal, and returns whether they were not.
-    ///
-    /// A word that is not known becomes known, in a class of its own, before.
+    /// Makes two words known and equal, and returns whether they were not equal.
     ///
     /// # Errors
     ///
-    /// - `AllocError`: an allocation failed, or the arena could not grow. Then `a` may have become
-    ///   known, and nothing else has changed.
+    /// - `AllocError`: an allocation or a growth failed; only `a` may have become known.
     pub fn equate(&mut self, a: &str, b: &str) -> Result<bool, AllocError>
         ensures joined { OnOk result (JoinsClasses self.old self.new a.now b.now) }
         ensures two { IfOk result (λ two. IsTrue two
@@ -115,7 +105,7 @@ impl<
         Ok(self.unite(p, q))
     }
 
-    /// Removes a word from its class, and returns whether it was known.
+    /// Removes a word and returns whether it was known.
     pub fn drop_word(&mut self, word: &str) -> bool
         ensures known { IsTrue result ↔ IsKnown self.old word.now }
         ensures dropped { IsDropped self.old self.new word.now }
@@ -130,14 +120,12 @@ impl<
         }
     }
 
-    // Returns the pointer of a word, or `None` if it is not known.
     fn pointer(&self, word: &str) -> Option<P>
         ensures { option_map P.key result ≡ pointer_of self.now word.now }
     {
         self.table.get(word).copied()
     }
 
-    // Returns the pointer of a word, which is known afterwards.
     fn intern(&mut self, word: &str) -> Result<P, AllocError>
         ensures ok { IfOk result (λ p. IsInterned self.old self.new word.now (P.key p)) }
         ensures err { OnErr result (AreKept self.old self.new) }
@@ -149,7 +137,6 @@ impl<
         }
     }
 
-    // Inserts a word that is not known into a class of its own.
     fn insert_word(&mut self, word: &str) -> Result<P, AllocError>
         requires { pointer_of self.old word.now ≡ None }
         ensures ok { IfOk result (λ p. IsInterned self.old self.new word.now (P.key p)) }
@@ -168,7 +155,6 @@ impl<
         }
     }
 
-    // Unites the classes of two pointers, and returns whether they were two.
     fn unite(&mut self, p: P, q: P) -> bool
         ensures { (a b : List ℕ) → pointer_of self.old a ≡ Some (P.key p)
             → pointer_of self.old b ≡ Some (P.key q) → AreUnited self.old self.new a b result }

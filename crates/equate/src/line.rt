@@ -1,31 +1,23 @@
-//! Lines of input, each a command on words.
+//! Lines of input.
 
 use std::str;
 
-/// A line of input.
 #[derive(Debug, Clone, Copy, PartialEq, Eq)]
 pub enum Line<'a> {
-    /// A line without words.
     Blank,
-    /// A line that is no command.
     Bad,
-    /// `a = b`: the words become equal.
+    /// `a = b`.
     Equate(&'a str, &'a str),
-    /// `a ? b`: whether the words are equal.
+    /// `a ? b`.
     Compare(&'a str, &'a str),
-    /// `class a`: the words that are equal to `a`.
     Class(&'a str),
-    /// `drop a`: the word is forgotten.
     Drop(&'a str),
 }
 
-/// The length of the longest line that is not bad, in bytes.
+/// The greatest length in bytes.
 pub const MAX_LINE: usize = 200;
 
-/// Parses a line.
-///
-/// A line is bad if it has more than 200 bytes, is not UTF-8, has a control character, or has
-/// words that are no command.
+/// A line that is too long, not UTF-8, or has control characters is bad.
 pub fn parse(line: &[u8]) -> Line<'_> {
     if line.len() > MAX_LINE {
         return Line::Bad;
@@ -36,7 +28,6 @@ pub fn parse(line: &[u8]) -> Line<'_> {
     }
 }
 
-/// Parses a text without control characters.
 fn parse_text(text: &str) -> Line<'_> {
     let mut words = text.split_whitespace();
     match (words.next(), words.next(), words.next(), words.next()) {
@@ -47,7 +38,6 @@ fn parse_text(text: &str) -> Line<'_> {
     }
 }
 
-/// Parses `class a` and `drop a`.
 fn parse_call<'a>(call: &'a str, a: &'a str) -> Line<'a> {
     if is_sign(a) {
         return Line::Bad;
@@ -59,7 +49,6 @@ fn parse_call<'a>(call: &'a str, a: &'a str) -> Line<'a> {
     }
 }
 
-/// Parses `a = b` and `a ? b`.
 fn parse_relation<'a>(a: &'a str, sign: &'a str, b: &'a str) -> Line<'a> {
     if is_sign(a) || is_sign(b) {
         return Line::Bad;
@@ -71,7 +60,6 @@ fn parse_relation<'a>(a: &'a str, sign: &'a str, b: &'a str) -> Line<'a> {
     }
 }
 
-/// Returns whether a text is `=` or `?`, which are no words.
 fn is_sign(text: &str) -> bool {
     text == "=" || text == "?"
 }

@@ -1,4 +1,4 @@
-//! A program that keeps words in classes of equal words, over a surjection arena.
+//! A program that keeps classes of equal words.
 #![tactic(auto)]
 
 mod equations;

@@ -1,4 +1,4 @@
-//! Runs, which read lines from a reader and write the responses to a writer.
+//! Runs of lines.
 
 use crate::equations::Equations;
 use crate::line::{Line, MAX_LINE, parse};
@@ -11,12 +11,9 @@ use std::alloc::{AllocError, AllocFailed, Global};
 use std::io::{ErrorKind, Read, Write};
 use surject_arena::{Counted, Member};
 
-/// The reason that a run stopped before the end of its input.
 #[derive(Clone, Copy, Debug, PartialEq, Eq)]
 pub enum RunError {
-    /// The reader failed.
     Read,
-    /// The writer failed.
     Write,
     /// An allocation failed.
     Memory,
@@ -34,14 +31,12 @@ impl<T: Drop> From<AllocFailed<T>> for RunError {
     }
 }
 
-/// The equations of the program.
 pub type WordEquations = Equations<
     ToolPtr,
     ChainArena<ToolPtr, Member<ToolPtr, String>>,
     Arena<ToolPtr, Counted<()>>,
 >;
 
-/// Writes the response to a comparison of two words to `text`.
 fn push_comparison<
     P: PtrKey,
     A: ChainArenaTrait<P, Member<P, String>> + Drop,
@@ -54,13 +49,11 @@ fn push_comparison<
     }
 }
 
-/// Writes `unknown WORD` to `text`.
 fn push_unknown(word: &str, text: &mut String) -> Result<(), AllocError> {
     text.push_str("unknown ")?;
     text.push_str(word)
 }
 
-/// Writes the words of a class to `text`, separated by spaces.
 fn push_class<
     P: PtrKey,
     A: ChainArenaTrait<P, Member<P, String>> + Drop,
@@ -80,11 +73,6 @@ fn push_class<
     Ok(())
 }
 
-/// Executes a line and writes its response to `text`.
-///
-/// # Errors
-///
-/// - `AllocError`: an allocation failed.
 fn respond<
     P: PtrKey,
     A: ChainArenaTrait<P, Member<P, String>> + Drop,
@@ -111,7 +99,6 @@ fn respond<
     text.push_str("\n")
 }
 
-/// Executes the line and clears it, and writes its response to the writer.
 fn end_line<
     P: PtrKey,
     A: ChainArenaTrait<P, Member<P, String>> + Drop,
@@ -128,8 +115,7 @@ fn end_line<
     writer.write_all(text.as_bytes()).or(Err(RunError::Write))
 }
 
-/// Executes the lines that a piece of the input completes, and keeps the beginning of the next
-/// line, of which one byte more than the maximum is enough.
+/// Keeps at most one byte above the maximum.
 fn feed<
     P: PtrKey,
     A: ChainArenaTrait<P, Member<P, String>> + Drop,
@@ -152,17 +138,7 @@ fn feed<
     Ok(())
 }
 
-/// Runs the lines of a reader on equations and writes their responses to a writer.
-///
-/// The writer is flushed before each read.
-///
-/// # Errors
-///
-/// - `Memory`: an allocation failed.
-/// - `Write`: the writer failed.
-/// - `Read`: the reader failed.
-///
-/// Lines executed before the error keep their effect.
+/// Runs the lines of a reader, and flushes the writer before each read.
 pub fn run_on<
     P: PtrKey,
     A: ChainArenaTrait<P, Member<P, String>> + Drop,
@@ -178,7 +154,7 @@ pub fn run_on<
     let mut piece = vec![in alloc; 0u8; 65536]?;
     let mut line = Vec::new(alloc);
     let mut text = String::new(alloc);
-    // Each loop is proved to end, so the reads are bounded.
+    // Bounded, to be proved to end.
     for _ in 0..u64::MAX {
         if writer.flush().is_err() {
             return Err(RunError::Write);
@@ -199,11 +175,6 @@ pub fn run_on<
     Err(RunError::Read)
 }
 
-/// Runs the lines of a reader on new equations, as `run_on` does.
-///
-/// # Errors
-///
-/// The errors are those of `run_on`.
 pub fn run<R: Read, W: Write>(
     alloc: Global,
     reader: &mut R,

@@ -23,7 +23,6 @@ forwarded state interlinks inner old new u v t p is = record {
   maximum = is.maximum;
 }
 
--- The same of an insertion without a kind.
 module _ {A B Gen T P : Type 0} {view : A → ArenaView Gen T} {entry : A → ℕ → Option (Gen × T)} (state : (a : A) → ArenaState (view a) (entry a)) (inner : B → A) (key : P → ℕ × Gen) (old new : B) (t : T) where
   entry_forwarded : (p : ℕ × Gen) → IsEntryInserted state (inner old) t p (inner new) → IsEntryInserted (λ b. state (inner b)) old t p new
   entry_forwarded p is = record {

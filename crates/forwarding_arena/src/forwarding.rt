@@ -1,6 +1,4 @@
-//! A second implementation of the traits, for generic code, that forwards to another arena.
-//!
-//! It knows only the contract of that arena, so it is an arena of links by the trait clauses alone.
+//! Forwarding by trait clauses alone.
 
 use arena_ptr::{
     AllocError, AnyPointer, ChainInsertionError, InvalidationOption, InvalidationResult,

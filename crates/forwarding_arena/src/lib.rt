@@ -1,4 +1,4 @@
-//! An arena of links that forwards to another arena, as a second arena for generic code.
+//! An arena of links that forwards to another arena.
 #![tactic(auto)]
 
 mod forwarding;

@@ -64,7 +64,6 @@ refusal_of may refuses m refused.AllocError is = (m, is)
 module _ {A B P Gen K V : Type 0} (key : P → ℕ × Gen) (following : Gen → Gen) {kview : A → ArenaView Gen (Member P K)} {kentry : A → ℕ → Option (Gen × Member P K)} (kstate : (a : A) → ArenaState (kview a) (kentry a)) (links : A → LinkMap)
     {vview : B → ArenaView Gen (Counted V)} {ventry : B → ℕ → Option (Gen × Counted V)} (vstate : (b : B) → ArenaState (vview b) (ventry b)) (a c : A) (b d : B) (r : ℕ)
     (is : IsPartition (set_in key (kentry a)) (links a) (size_in (ventry b))) where
-  -- A key m is removed at p, and its value with the last key of its set.
   module _ (p : ℕ × Gen) (m : Member P K) (stored : kentry a p.0 ≡ Some (p.1, m)) (removed : kview c ≡ view_after_removal following (kview a) p.0) (relinked : links c ≡ with_removal (links a) p.0) (agrees : IsWellLinked (links a)) (o : Option V)
       (many : (t : V) (n : ℕ) → ventry b (key m.set).0 ≡ Some ((key m.set).1, counted t n) → 1 < n → (o ≡ None) × (vview d ≡ view_with_value (vview b) (key m.set).0 (counted t (n - 1))))
       (last : (t : V) (n : ℕ) → ventry b (key m.set).0 ≡ Some ((key m.set).1, counted t n) → n ≤ 1 → (o ≡ Some t) × (vview d ≡ view_after_removal following (vview b) (key m.set).0)) where

@@ -38,7 +38,6 @@ module _ (to : ℕ → Option ℕ) where
   images-length (x ∷ xs) (y ∷ ys) are = omega (arith, images-length xs ys are.1)
 
 module _ {Gen : Type 0} (set after : ℕ → Option (ℕ × Gen)) (links changed : LinkMap) (size resized : ℕ → Option (Gen × ℕ)) (to : ℕ → Option ℕ) (Moves : ℕ × Gen → ℕ × Gen → Type 0) where
-  -- Keys are moved to new indexes, and their sets to new names.
   pub record AreMoved : Type 0 where
     pub links_renamed : IsRenaming to links changed
     pub forth : (i : ℕ) (w : ℕ × Gen) → set i ≡ Some w → (k : ℕ) × (v : ℕ × Gen) × (to i ≡ Some k) × Moves w v × (after k ≡ Some v)
@@ -102,7 +101,6 @@ module _ {A B P Gen K V : Type 0} (key : P → ℕ × Gen) {kview : A → ArenaV
   abbrev key_place : ℕ → Option ℕ
   key_place = place_in (map index_of (kview a).entries)
 
-  -- The value of w is moved to v.
   record Moves (w v : ℕ × Gen) : Type 0 where
     pub was : IsValid (ventry b) w
     pub place : value_place w.0 ≡ Some v.0

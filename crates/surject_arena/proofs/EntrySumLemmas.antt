@@ -10,12 +10,10 @@ use Rattle.surject_arena.specs.SetCalls.{IsAdded}
 use Rattle.surject_arena.proofs.OptionLemmas.{same_some, none_some}
 
 module _ {Gen X : Type 0} where
-  -- The weights of all values together.
   abbrev pub total_weight : (X → ℕ) → List ((ℕ × Gen) × X) → ℕ
   total_weight weight [] = 0
   total_weight weight (e ∷ es) = weight e.1 + total_weight weight es
 
-  -- Each index has one entry at most.
   abbrev pub AreOnce : List ((ℕ × Gen) × X) → Type 0
   AreOnce [] = ⊤
   AreOnce (e ∷ es) = (found e.0.0 es ≡ None) × AreOnce es

@@ -74,7 +74,6 @@ module _ {Gen K V : Type 0} where
       name_is u w same (ap (λ (x : Gen × (V × ℕ)). x.0) both)
 
   module _ (following : Gen → Gen) (old new : Surjection Gen K V) (is : IsSurjection old) where
-    -- A set absorbs another one.
     module _ (to from : ℕ × Gen) (t : V) (absorbs : IsAbsorbed old new following to from t) where
       is_from : (i u : ℕ × Gen) → IsKeyOf old u i → (u ≡ from) ⊎ (set_at old i.0 ≢ Some from)
       is_from i u in_u = ⊎_elim

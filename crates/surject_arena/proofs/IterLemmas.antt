@@ -13,7 +13,6 @@ use Rattle.surject_arena.specs.KeySets.{IsAscending}
 use Rattle.surject_arena.proofs.OptionLemmas.{same_some}
 
 module _ {Gen T : Type 0} where
-  -- The pointers of entries.
   abbrev pub pointers : List ((ℕ × Gen) × T) → List (ℕ × Gen)
   pointers es = map (λ e. e.0) es
 

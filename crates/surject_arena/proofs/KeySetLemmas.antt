@@ -29,7 +29,6 @@ module _ {Gen T : Type 0} (entry : ℕ → Option (Gen × T)) where
   pointers_end [] none = refl
   pointers_end (i ∷ indexes) none = at_free i indexes (none i indexes refl)
 
--- The pointers at indexes that are all in one set.
 module _ {P Gen K : Type 0} (key : P → ℕ × Gen) (entry : ℕ → Option (Gen × Member P K)) (w : ℕ × Gen) where
   indexes_of : (indexes : List ℕ) → ((i : ℕ) → IsMember indexes i → set_in key entry i ≡ Some w) → map (λ p. p.0) (pointers_at entry indexes) ≡ indexes
   indexes_of [] own = refl
@@ -37,7 +36,6 @@ module _ {P Gen K : Type 0} (key : P → ℕ × Gen) (entry : ℕ → Option (Ge
       let e = from_mapped (λ (x : Gen × Member P K). key x.1.set) (entry i) w (own i (inl refl)) in
       ap (map (λ (p : ℕ × Gen). p.0)) (at_stored entry i indexes e.0 e.1) ∙ ap (λ (l : List ℕ). i ∷ l) (indexes_of indexes (λ j has. own j (inr has)))
 
--- The keys of the walk from a key of the set w are those of the set.
 module _ {A B P Gen K V : Type 0} (key : P → ℕ × Gen) {kview : A → ArenaView Gen (Member P K)} {kentry : A → ℕ → Option (Gen × Member P K)} (kstate : (a : A) → ArenaState (kview a) (kentry a)) (links : A → LinkMap)
     {vview : B → ArenaView Gen (Counted V)} {ventry : B → ℕ → Option (Gen × Counted V)} (vstate : (b : B) → ArenaState (vview b) (ventry b)) (a : A) (b : B) (r : ℕ)
     (is : IsPartition (set_in key (kentry a)) (links a) (size_in (ventry b))) (p w : ℕ × Gen) (own : set_in key (kentry a) p.0 ≡ Some w) (walk : List ℕ) (is_walk : IsWalk (links a) p.0 walk) where

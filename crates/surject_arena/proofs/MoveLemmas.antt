@@ -19,7 +19,6 @@ same_list : (a b : ℕ) (xs ys : List ℕ) → a ∷ xs ≡ b ∷ ys → (a ≡ 
 same_list a b xs ys same = (let h = same in cc, let h = same in cc)
 
 module _ {Gen X : Type 0} where
-  -- The indexes of entries are the numbers from n on.
   abbrev pub AreNumberedFrom : ℕ → List ((ℕ × Gen) × X) → Type 0
   AreNumberedFrom n [] = Unit {0}
   AreNumberedFrom n (e ∷ es) = (e.0.0 ≡ n) × AreNumberedFrom (suc n) es
@@ -51,11 +50,9 @@ module _ {Gen X : Type 0} where
       by (inr other) later = later (sym (past_first a i es other) ∙ at)
 
   module _ (R : Gen × X → Gen × X → Type 0) where
-    -- The entries of two lists, related in order.
     abbrev pub AreRelated : List ((ℕ × Gen) × X) → List ((ℕ × Gen) × X) → Type 0
     AreRelated es fs = AreMatched (λ e f. R (e.0.1, e.1) (f.0.1, f.1)) es fs
 
-    -- The entry at i is moved to its place.
     pub record IsMovedTo (n : ℕ) (es fs : List ((ℕ × Gen) × X)) (i : ℕ) (e : Gen × X) : Type 0 where
       pub to : ℕ
       pub entry : Gen × X
@@ -87,7 +84,6 @@ module _ {Gen X : Type 0} where
               related = later.related;
             }
 
-    -- The entry at k was moved from an index whose place is k.
     pub record IsMovedFrom (n : ℕ) (es fs : List ((ℕ × Gen) × X)) (k : ℕ) (f : Gen × X) : Type 0 where
       pub from : ℕ
       pub entry : Gen × X

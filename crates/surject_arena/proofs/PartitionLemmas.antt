@@ -26,7 +26,6 @@ module _ {Gen : Type 0} where
       (name_is u w same (ap (λ (e : Gen × ℕ). e.0) pair), ap (λ (e : Gen × ℕ). e.1) pair)
 
 module _ {Gen : Type 0} (set after : ℕ → Option (ℕ × Gen)) (links changed : LinkMap) (size resized : ℕ → Option (Gen × ℕ)) (is : IsPartition set links size) where
-  -- Sets other than v and w stay, and w is dropped unless it is v.
   pub record KeepsOthers (v w : ℕ × Gen) : Type 0 where
     pub members : (i : ℕ) (u : ℕ × Gen) → after i ≡ Some u → (u ≡ v) ⊎ ((set i ≡ Some u) × (u.0 ≢ v.0) × (u.0 ≢ w.0))
     pub stay : (i : ℕ) (u : ℕ × Gen) → u.0 ≢ v.0 → u.0 ≢ w.0 → set i ≡ Some u → after i ≡ Some u
@@ -34,7 +33,6 @@ module _ {Gen : Type 0} (set after : ℕ → Option (ℕ × Gen)) (links changed
     pub sizes : (j : ℕ) → j ≢ v.0 → j ≢ w.0 → resized j ≡ size j
     pub dropped : v.0 ≢ w.0 → resized w.0 ≡ None
 
-  -- The set v has m keys, or is empty and has no value.
   abbrev pub IsLeft : ℕ × Gen → Type 0
   IsLeft v = ((m : ℕ) × (resized v.0 ≡ Some (v.1, m)) × IsSet after changed v m) ⊎ ((resized v.0 ≡ None) × ((i : ℕ) → after i ≢ Some v))
 
@@ -83,7 +81,6 @@ module _ {Gen : Type 0} (set after : ℕ → Option (ℕ × Gen)) (links changed
   outside : (u : ℕ × Gen) (n i : ℕ) (s : IsSet set links u n) → set i ≡ None → IsMember s.items i → ⊥
   outside u n i s free has = none_some u (set i) free ((s.members i).0 has)
 
-  -- A key p comes into the set w.
   module _ (p : ℕ) (w : ℕ × Gen) (free : set p ≡ None) (at : after p ≡ Some w) (rest : (i : ℕ) → i ≢ p → after i ≡ set i) (others : (j : ℕ) → j ≢ w.0 → resized j ≡ size j) where
     old_key : (i : ℕ) (u : ℕ × Gen) → set i ≡ Some u → after i ≡ Some u
     old_key i u own = rest i (λ same. none_some u (set p) free (ap set (sym same) ∙ own)) ∙ own
@@ -139,7 +136,6 @@ module _ {Gen : Type 0} (set after : ℕ → Option (ℕ × Gen)) (links changed
               );
             }
 
-  -- A key p leaves its set w.
   module _ (p : ℕ) (w : ℕ × Gen) (n : ℕ) (own : set p ≡ Some w) (gone : after p ≡ None) (rest : (i : ℕ) → i ≢ p → after i ≡ set i) (removes : Removes links changed p)
       (was : size w.0 ≡ Some (w.1, n)) (others : (j : ℕ) → j ≢ w.0 → resized j ≡ size j) where
     still : (i : ℕ) (u : ℕ × Gen) → after i ≡ Some u → (i ≢ p) × (set i ≡ Some u)
@@ -194,7 +190,6 @@ module _ {Gen : Type 0} (set after : ℕ → Option (ℕ × Gen)) (links changed
         shrunk : IsSet set links w n → IsSet after changed w (n - 1)
         shrunk s = let split = IsMember-written s.items p ((s.members p).1 own) in without s split.0 split.1 split.2
 
-  -- The keys of the set `w` of `q` come into the set `v` of `p`.
   module _ (p q : ℕ) (v w : ℕ × Gen) (n m : ℕ) (at_p : set p ≡ Some v) (at_q : set q ≡ Some w) (differ : v ≢ w) (moved : (i : ℕ) → set i ≡ Some w → after i ≡ Some v)
       (kept : (i : ℕ) → set i ≢ Some w → after i ≡ set i) (exchanges : Exchanges links changed p q) (was_v : size v.0 ≡ Some (v.1, n)) (was_w : size w.0 ≡ Some (w.1, m))
       (now_v : resized v.0 ≡ Some (v.1, n + m)) (now_w : resized w.0 ≡ None) (others : (j : ℕ) → j ≢ v.0 → j ≢ w.0 → resized j ≡ size j) where
@@ -237,7 +232,6 @@ module _ {Gen : Type 0} (set after : ℕ → Option (ℕ × Gen)) (links changed
               );
             }
 
--- A set has at most as many keys as there are, and so have two sets.
 module _ {Gen : Type 0} (set : ℕ → Option (ℕ × Gen)) (links : LinkMap) (all : List ℕ) (listed : (i : ℕ) (u : ℕ × Gen) → set i ≡ Some u → IsMember all i) where
   pub set_fits : (w : ℕ × Gen) (n : ℕ) → IsSet set links w n → n ≤ length all
   set_fits w n s =

@@ -11,12 +11,10 @@ use Rattle.chain_laws.proofs.RenamingLemmas.Positions.{has-place, place-last, pl
 use Rattle.surject_arena.specs.Renames.{HasPlaces}
 use Rattle.surject_arena.proofs.OptionLemmas.{same_some}
 
--- Numbers that rise, from j on.
 abbrev pub Rise : ℕ → List ℕ → Type 0
 Rise j [] = Unit {0}
 Rise j (i ∷ is) = (j ≤ i) × Rise (suc i) is
 
--- The indexes of pointers.
 abbrev pub indexes : {Gen : Type 0} → List (ℕ × Gen) → List ℕ
 indexes ps = map (λ p. p.0) ps
 

@@ -49,7 +49,6 @@ module _ {P Gen K : Type 0} where
   abbrev key_in : Gen × Member P K → Gen × K
   key_in e = (e.0, e.1.key)
 
--- A set whose keys were put into another one.
 module _ {P Gen K : Type 0} (key : P → ℕ × Gen) (ke kf : ℕ → Option (Gen × Member P K)) (links : LinkMap) (q : ℕ) (v : P) (w : ℕ × Gen) (m : ℕ) (redirected : AreRedirected ke kf links q v) (t : IsSet (set_in key ke) links w m)
     (own : set_in key ke q ≡ Some w) where
   on_walk : (i : ℕ) → set_in key ke i ≡ Some w → IsMember redirected.items i

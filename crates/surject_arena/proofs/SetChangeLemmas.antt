@@ -32,7 +32,6 @@ pub same_entries : {A Gen T : Type 0} {view : A → ArenaView Gen T} {entry : A 
     → (i : ℕ) → entry b i ≡ entry a i
 same_entries state a b same i = sym ((state b).finds i) ∙ (ap (found i) same ∙ (state a).finds i)
 
--- A write of a size, a removal of a value, and a removal of a key.
 module _ {B Gen V : Type 0} {view : B → ArenaView Gen (Counted V)} {entry : B → ℕ → Option (Gen × Counted V)} (state : (b : B) → ArenaState (view b) (entry b)) (b c : B) (w : ℕ × Gen) where
   pub value_written : (t u : V) (m n : ℕ) → view c ≡ view_with_value (view b) w.0 (counted u n) → entry b w.0 ≡ Some (w.1, counted t m) → entry c w.0 ≡ Some (w.1, counted u n)
   value_written t u m n written was = value_there state b c w.0 (counted u n) written ∙ ap (option_map (λ e. (e.0, counted u n))) was
@@ -65,7 +64,6 @@ module _ {P Gen K V : Type 0} (key : P → ℕ × Gen) (ke kf : ℕ → Option (
       (ap (option_map (λ e. key e.1.set)) gained.free) (set_stored key kf q.0 q.1 (member k w) gained.stored) (λ i other. set_same i (gained.rest i other)) others
       p n agrees unlinked own inserts was now
 
-  -- A key leaves its set.
   module _ (p : ℕ × Gen) (m : Member P K) (stored : ke p.0 ≡ Some (p.1, m)) (gone : kf p.0 ≡ None) (rest : (i : ℕ) → i ≢ p.0 → kf i ≡ ke i) (removes : Removes links changed p.0)
       (n : ℕ) (was : size_in ve (key m.set).0 ≡ Some ((key m.set).1, n)) (others : (j : ℕ) → j ≢ (key m.set).0 → size_in vf j ≡ size_in ve j) where
     pub without_one : 1 < n → size_in vf (key m.set).0 ≡ Some ((key m.set).1, n - 1) → IsPartition (set_in key kf) changed (size_in vf)

@@ -36,7 +36,6 @@ module _ {Gen V : Type 0} (ve : ℕ → Option (Gen × Counted V)) where
 
 module _ {A B P Gen K V : Type 0} (key : P → ℕ × Gen) {kview : A → ArenaView Gen (Member P K)} {kentry : A → ℕ → Option (Gen × Member P K)} (kstate : (a : A) → ArenaState (kview a) (kentry a))
     {vview : B → ArenaView Gen (Counted V)} {ventry : B → ℕ → Option (Gen × Counted V)} (vstate : (b : B) → ArenaState (vview b) (ventry b)) (a : A) (b : B) (r : ℕ) where
-  -- The surjection of the two arenas.
   abbrev pub seen : Surjection Gen K V
   seen = surjection_of key (kview a) (vview b) r
 

@@ -104,7 +104,6 @@ module _ {Gen K V : Type 0} (wraps : Gen → Bool) (following : Gen → Gen) (ol
         overflow = none_wraps wraps following old.keys.counter;
       }
 
-  -- A key at q, beside p, is removed from the keys that are left.
   module _ (mid new : Surjection Gen K V) (wrapped : Bool) (is : IsSetReduced old mid wraps following p wrapped) (ascends : AscendsFrom 1 mid.keys.entries) (q : ℕ × Gen) (k : K) (o : Option V) (taken : IsKeyTaken mid new following q k o) where
     stays : IsKeyOf mid is.set p
     stays = (is.key.0, is.rest p.0 is.not_first ∙ is.key.1)
@@ -183,7 +182,6 @@ module _ {Gen K V : Type 0} (wraps : Gen → Bool) (following : Gen → Gen) (ol
         one_removed mid new wrapped is ascends q t.0.0 t.0.1 t.2 (is_overflow_result result) t.3 beside.0 beside.1 beside.2,
       )
 
-  -- The key at p, the last of its set, is removed.
   module _ (mid new : Surjection Gen K V) (wrapped : Bool) (is : IsSetReduced old mid wraps following p wrapped) (alone : IsAlone mid p) (k : K) (o : Option V) (taken : IsKeyTaken mid new following p k o) where
     last_stays : IsKeyOf mid is.set p
     last_stays = (is.key.0, is.rest p.0 is.not_first ∙ is.key.1)
@@ -251,7 +249,6 @@ module _ {Gen K V : Type 0} (wraps : Gen → Bool) (following : Gen → Gen) (ol
         kept_at : (i : ℕ) → (IsMember (p.0 ∷ is.indexes) i → ⊥) → entry_in new.keys i ≡ entry_in old.keys i
         kept_at = others_stay mid new wrapped is ascends p k o taken
 
-  -- The outcome of the removal of the last key.
   module _ (mid new : Surjection Gen K V) (wrapped : Bool) (is : IsSetReduced old mid wraps following p wrapped) (alone : IsAlone mid p) (result : InvalidationResult (K × Option V))
       (outcome : ReportsOverflow wraps mid.keys.counter (IsKey mid p → ⊥) (λ e. IsKeyTaken mid new following p e.0 e.1) result) where
     taken_last : (e : K × Option V) × (value_within result ≡ Some e) × IsKeyTaken mid new following p e.0 e.1 × IfSome mid.keys.counter (λ g. wraps g ≡ is_overflow_result result)

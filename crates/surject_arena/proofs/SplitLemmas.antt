@@ -34,7 +34,6 @@ ends_in (x ∷ y ∷ xs) filled =
     let rest = ends_in (y ∷ xs) (IsMember-filled (y ∷ xs) y (inl refl)) in
     (x ∷ rest.0, rest.1, ap (λ (l : List ℕ). x ∷ l) rest.2)
 
--- In a cyclic chain, p and the link j before it exchange their next links.
 module _ {A P Gen T : Type 0} (key : P → ℕ × Gen) {view : A → ArenaView Gen T} {entry : A → ℕ → Option (Gen × T)} (state : (a : A) → ArenaState (view a) (entry a)) (links : A → LinkMap)
     (linked : (a : A) (i : ℕ) → is_some (links a i) ≡ is_some (entry a i)) (a b : A) (p : P) (x : List ℕ) (j : ℕ) (agrees : IsWellLinked (links a)) (ring : IsChain (links a) (cyclic ((key p).0 ∷ x ++ j ∷ []))) where
   prev_is : prev_of (links a) (key p).0 ≡ Some j
@@ -59,7 +58,6 @@ module _ {A P Gen T : Type 0} (key : P → ℕ × Gen) {view : A → ArenaView G
         second_next = subst (λ (k : ℕ × Gen). is_some (next_of (links a) k.0) ≡ true) (sym same) (ap is_some ((agrees.both j (key p).0).1 prev_is));
       }))
 
--- A key p of the set w, which has other keys.
 module _ {Gen : Type 0} (set : ℕ → Option (ℕ × Gen)) (links : LinkMap) (size : ℕ → Option (Gen × ℕ)) (is : IsPartition set links size) (p : ℕ) (w : ℕ × Gen) (n : ℕ) (own : set p ≡ Some w) (was : size w.0 ≡ Some (w.1, n)) (many : 1 < n) where
   whole : IsSet set links w n
   whole = is.sets w n was
@@ -71,7 +69,6 @@ module _ {Gen : Type 0} (set : ℕ → Option (ℕ × Gen)) (links : LinkMap) (s
       let end = ends_in turned.0 (λ nil. omega (arith, many, whole.size, as_long, ap length nil)) in
       (end.0, end.1, subst (λ (l : List ℕ). IsChain links (cyclic (p ∷ l))) end.2 turned.1)
 
-  -- It comes into the new set v.
   module _ (after : ℕ → Option (ℕ × Gen)) (changed : LinkMap) (resized : ℕ → Option (Gen × ℕ)) (v : ℕ × Gen) (front : List ℕ) (last : ℕ) (chain : IsChain links (cyclic (p ∷ front ++ last ∷ [])))
       (at : after p ≡ Some v) (rest : (i : ℕ) → i ≢ p → after i ≡ set i) (exchanges : Exchanges links changed p last) (unused : size v.0 ≡ None) (there : resized v.0 ≡ Some (v.1, 1))
       (fewer : resized w.0 ≡ Some (w.1, n - 1)) (others : (j : ℕ) → j ≢ v.0 → j ≢ w.0 → resized j ≡ size j) where
@@ -150,7 +147,6 @@ module _ {Gen : Type 0} (set : ℕ → Option (ℕ × Gen)) (links : LinkMap) (s
           (cases_eq u.0 v.0);
     }
 
--- The same over two arenas, by what each call did.
 module _ {A B P Gen K V : Type 0} (key : P → ℕ × Gen) {kview : A → ArenaView Gen (Member P K)} {kentry : A → ℕ → Option (Gen × Member P K)} (kstate : (a : A) → ArenaState (kview a) (kentry a)) (links : A → LinkMap)
     {vview : B → ArenaView Gen (Counted V)} {ventry : B → ℕ → Option (Gen × Counted V)} (vstate : (b : B) → ArenaState (vview b) (ventry b)) (a0 a1 a2 : A) (b0 b1 b2 : B) (r : ℕ)
     (is : IsPartition (set_in key (kentry a0)) (links a0) (size_in (ventry b0))) (p w v : P) (in_set : IsKeyOf (seen key kstate vstate a0 b0 r) (key w) (key p))

@@ -41,7 +41,6 @@ module _ {Gen T : Type 0} where
       ap (with_replacement j (valued d)) (sym (written_apart i j c b (with_replacement i (valued a) s.entries) apart) ∙ ap (with_replacement j (valued b)) (written_again i a c s.entries))
       ∙ written_again j b d (with_replacement i (valued c) s.entries))
 
--- The sizes stay.
 module _ {B Gen V : Type 0} {view : B → ArenaView Gen (Counted V)} {entry : B → ℕ → Option (Gen × Counted V)} (state : (b : B) → ArenaState (view b) (entry b)) (b d : B) (v w : ℕ × Gen) (t u : V) (n m : ℕ) (apart : v.0 ≢ w.0)
     (first : entry b v.0 ≡ Some (v.1, counted t n)) (second : entry b w.0 ≡ Some (w.1, counted u m))
     (swapped : view d ≡ view_with_value (view_with_value (view b) v.0 (counted u n)) w.0 (counted t m)) where
@@ -77,7 +76,6 @@ module _ {B Gen V : Type 0} {view : B → ArenaView Gen (Counted V)} {entry : B 
   swapped_view = ap (map_view counted_view) swapped ∙ (written-each counted_view (view_with_value (view b) v.0 (counted u n)) w.0 (counted t m)
       ∙ ap (λ (s : ArenaView Gen (V × ℕ)). view_with_value s w.0 (t, m)) (written-each counted_view (view b) v.0 (counted u n)))
 
--- Sizes that are written before the exchange come back to their places.
 module _ {B P Gen V : Type 0} {view : B → ArenaView Gen (Counted V)} {entry : B → ℕ → Option (Gen × Counted V)} (state : (b : B) → ArenaState (view b) (entry b)) (key : P → ℕ × Gen) (b mid both d : B) (p q : P) (t u : V) (n m : ℕ)
     (apart : (key p).0 ≢ (key q).0) (first : entry b (key p).0 ≡ Some ((key p).1, counted t n)) (second : entry b (key q).0 ≡ Some ((key q).1, counted u m))
     (one : view mid ≡ view_with_value (view b) (key p).0 (counted t m)) where

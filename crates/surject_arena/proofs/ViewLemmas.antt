@@ -14,12 +14,10 @@ use Rattle.surject_arena.specs.Surjections.{map_view, entry_in}
 use Rattle.surject_arena.specs.SetCalls.{IsAdded}
 use Rattle.surject_arena.proofs.OptionLemmas.{from_mapped}
 
--- A view with other entries.
 abbrev pub with_entries : {Gen X : Type 0} → ArenaView Gen X → List ((ℕ × Gen) × X) → ArenaView Gen X
 with_entries s es = record s { entries = es }
 
 module _ {Gen X Y : Type 0} (f : X → Y) where
-  -- A listed entry with f applied to its value.
   abbrev pub each : (ℕ × Gen) × X → (ℕ × Gen) × Y
   each e = (e.0, f e.1)
 

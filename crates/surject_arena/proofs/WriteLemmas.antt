@@ -19,7 +19,6 @@ use Rattle.surject_arena.proofs.CallLemmas.{partition_kept}
 module _ {A B P Gen K V : Type 0} (key : P → ℕ × Gen) {kview : A → ArenaView Gen (Member P K)} {kentry : A → ℕ → Option (Gen × Member P K)} (kstate : (a : A) → ArenaState (kview a) (kentry a)) (links : A → LinkMap)
     {vview : B → ArenaView Gen (Counted V)} {ventry : B → ℕ → Option (Gen × Counted V)} (vstate : (b : B) → ArenaState (vview b) (ventry b)) (a : A) (b : B) (r : ℕ)
     (is : IsPartition (set_in key (kentry a)) (links a) (size_in (ventry b))) (p : ℕ × Gen) where
-  -- Another key is written at p, and its set stays.
   module _ (c : A) (m : Member P K) (stored : kentry a p.0 ≡ Some (p.1, m)) (k : K) (written : kview c ≡ view_with_value (kview a) p.0 (member k m.set)) where
     same_set : (i : ℕ) → set_in key (kentry c) i ≡ set_in key (kentry a) i
     same_set i = ⊎_elim
@@ -41,7 +40,6 @@ module _ {A B P Gen K V : Type 0} (key : P → ℕ × Gen) {kview : A → ArenaV
       redirected = refl;
     }
 
-  -- Another value of the set w of p is written.
   module _ (d : B) (w : ℕ × Gen) (t u : V) (n : ℕ) (stored : ventry b w.0 ≡ Some (w.1, counted t n)) (written : vview d ≡ view_with_value (vview b) w.0 (counted u n)) where
     pub same_sizes : (following : Gen → Gen) → IsPartition (set_in key (kentry a)) (links a) (size_in (ventry d))
     same_sizes following = same_partition _ _ _ _ _ _ is (λ i. refl) refl (partition_kept key following kstate links vstate a a b d r is w t u n stored written)

@@ -1,4 +1,4 @@
--- The pointers of the keys of a set as a list.
+-- The keys of a set as a list of pointers.
 use Rattle.std.specs.Prelude.{◌≡◌, ◌↔◌, ⊤, ℕ, List, [], ◌∷◌, map, All, IsSome, IfSome, Option, None, Some}
 use Rattle.arena_traits.specs.Arena.{IsValid}
 use Rattle.arena_traits.specs.Entries.{ArenaView, ArenaState}
@@ -8,7 +8,7 @@ use Rattle.chain_laws.specs.Chains.{LinkMap}
 use Rattle.chain_laws.specs.Walks.{IsWalk}
 use Rattle.surject_arena.specs.Surjections.{Surjection, IsKey, IsKeyOf, AreKeysOf}
 
--- The pointers to the entries at these indexes, up to the first index without one.
+-- The pointers at these indexes, up to the first without an entry.
 abbrev pub pointers_at : {Gen T : Type 0} → (ℕ → Option (Gen × T)) → List ℕ → List (ℕ × Gen)
 pointers_at entry [] = []
 pointers_at entry (i ∷ indexes) = elim (entry i) [ None ↦ [] | Some e ↦ (i, e.0) ∷ pointers_at entry indexes ]
@@ -21,7 +21,7 @@ module _ {A P Gen T : Type 0} {view : A → ArenaView Gen T} {entry : A → ℕ 
     keys : IfSome result (λ keys. (walk : List ℕ) × IsWalk (interlinks a) (key p).0 walk × (keys ≡ pointers_at (entry a) walk));
   }
 
--- The cursor of an advancer by ascending index, which may be at its end.
+-- The cursor goes up or is at its end.
 abbrev pub IsAscending : Cursor → Type 0
 IsAscending (Up i) = ⊤
 IsAscending (Down i) = ⊥
@@ -32,7 +32,6 @@ module _ {Gen K V : Type 0} (s : Surjection Gen K V) where
   abbrev pub all_pointers : List (ℕ × Gen)
   all_pointers = map (λ e. e.0) s.keys.entries
 
-  -- The pointers of the keys of the set w, each once.
   pub record ArePointersOf (w : ℕ × Gen) (pointers : List (ℕ × Gen)) : Type 0 where
     pub once : AreKeysOf s w (map (λ p. p.0) pointers)
     pub keys : All (λ p. IsKeyOf s w p) pointers

@@ -1,4 +1,4 @@
--- The ghost members of the traits of arenas, for the row of `SurjectArena` in loans.
+-- Ghost members of traits, for the row of `SurjectArena`.
 use Rattle.std.specs.Prelude.{ℕ}
 use Rattle.chain_laws.specs.Chains.{LinkMap}
 use Rattle.chain_laws.specs.Walks.{Walker}
@@ -6,7 +6,6 @@ use Rattle.chain_laws.specs.declared.insert_kind.InsertKind.{InsertKind}
 use Rattle.chain_traits.specs.declared.chain_traits.ChainArenaTrait.{Ghosts}
 use Rattle.arena_traits.specs.declared.traits.PlainArenaTrait.{Ghosts as PlainGhosts}
 
--- The members that `ChainArenaTrait` adds to an arena, in its order.
 abbrev pub chain_members : {A P T C D I G W : Type 0} → (A → LinkMap) → (C → Walker) → (A → InsertKind P I → T → A → P → Type 0) → (connects : A → P → P → A → Type 0) → (breaks_prev breaks_next : A → P → A → Type 0)
     → (exchanges : A → P → P → A → Type 0) → (reverses : A → P → A → Type 0) → (moves : A → P → P → A → Type 0) → (splices : A → P → P → P → A → Type 0) → (A → A → Type 0) → Ghosts A P T C D I G W
 chain_members interlinks walker inserts connects breaks_prev breaks_next exchanges reverses moves splices compresses_canonically = record {
@@ -23,6 +22,5 @@ chain_members interlinks walker inserts connects breaks_prev breaks_next exchang
   compresses_canonically = compresses_canonically;
 }
 
--- The members that `PlainArenaTrait` adds to an arena.
 abbrev pub plain_members : {A P T D I G W : Type 0} → (A → T → A → Type 0) → (A → ℕ → ℕ → A → Type 0) → PlainGhosts A P T D I G W
 plain_members inserts swaps = record { inserts = inserts; swaps = swaps }

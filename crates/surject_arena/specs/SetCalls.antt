@@ -1,4 +1,4 @@
--- The outcomes of calls on a surjection arena, by the cases of their results.
+-- The outcomes of calls on a surjection arena.
 use Rattle.std.specs.Prelude.{◌≡◌, ◌≢◌, ◌↔◌, ℕ, ◌+◌, ◌-◌, ◌<◌, ◌≤◌, ◌⊎◌, ◌^◌, min, map, IsSome, IfSome, Option, None, Some, Result, Ok, Err}
 use Rattle.std.specs.Option.{option_map}
 use Rattle.std.specs.Borrow.{Bor}
@@ -16,8 +16,7 @@ use Rattle.arena_traits.specs.Growth.{IsGrowthResult, RefusesOneMore, GrowsForOn
 use Rattle.chain_links.specs.Insertions.{IsInsertionResult}
 use Rattle.surject_arena.specs.Surjections.{Surjection, entry_in, key_at, set_at, IsKey, IsKeyOf, HasValue, SharesSet, IsAlone}
 
--- The value x is inserted at p: at the next slot, and with the counter as its generation, if these
--- are known. The counter is unchanged.
+-- The value x is inserted at p.
 pub record IsAdded {Gen X : Type 0} (old : ArenaView Gen X) (x : X) (p : ℕ × Gen) (new : ArenaView Gen X) : Type 0 where
   pub entries : IsInserted (entry_in old) (entry_in new) p x
   pub more : count new ≡ count old + 1
@@ -27,12 +26,11 @@ pub record IsAdded {Gen X : Type 0} (old : ArenaView Gen X) (x : X) (p : ℕ × 
   pub counter : new.counter ≡ old.counter
   pub maximum : new.maximum ≡ old.maximum
 
--- A view of a new arena, with capacity for n entries.
 abbrev pub IsNewFor : {Gen X : Type 0} → Gen → ℕ → ℕ → ArenaView Gen X → Type 0
 IsNewFor first greatest n a = IsNew first a × (n ≤ a.capacity) × (n ≤ greatest) × IsWithinMaximum a.maximum n
 
 module _ {Gen K V : Type 0} where
-  -- `new`: there are no keys and no values, and no capacity.
+  -- `new`: no keys, no values and no capacity.
   pub record StartsEmpty (first : Gen) (s : Surjection Gen K V) : Type 0 where
     pub keys : IsNew first s.keys
     pub values : IsNew first s.values
@@ -40,7 +38,7 @@ module _ {Gen K V : Type 0} where
     pub value_capacity : s.values.capacity ≡ 0
     pub redirected : s.redirected ≡ 0
 
-  -- `with_capacity`: there are no keys and no values, and capacity for so many, or there could not be.
+  -- `with_capacity`: no keys, no values and these capacities, or an error.
   abbrev pub StartsWithCapacities : {E : Type 0} → Gen → ℕ → ℕ → ℕ → Result (Surjection Gen K V) E → Type 0
   StartsWithCapacities first greatest n m (Ok s) = IsNewFor first greatest n s.keys × IsNewFor first greatest m s.values × (s.redirected ≡ 0)
   StartsWithCapacities first greatest n m (Err why) = (0 < n) ⊎ (0 < m)
@@ -50,14 +48,13 @@ module _ {Gen K V : Type 0} where
     abbrev pub GrowsKeys : Type 0
     GrowsKeys = (new ≡ record old { keys = with_capacity old.keys new.keys.capacity }) × (old.keys.capacity ≤ new.keys.capacity)
 
-    -- The key k at p is in a new set, which has the value t.
+    -- The key k at p is in a new set with the value t.
     pub record IsSetAdded (k : K) (t : V) (p : ℕ × Gen) : Type 0 where
       pub set : ℕ × Gen
       pub key : IsAdded old.keys (k, set) p new.keys
       pub value : IsAdded old.values (t, 1) set new.values
       pub redirected : new.redirected ≡ old.redirected
 
-    -- The key k at q is in the set of the key at p, which counts one more key.
     pub record IsKeyAdded (p : ℕ × Gen) (k : K) (q : ℕ × Gen) : Type 0 where
       pub set : ℕ × Gen
       pub beside : IsKeyOf old set p
@@ -68,8 +65,7 @@ module _ {Gen K V : Type 0} where
       pub values : new.values ≡ view_with_value old.values set.0 (value, size + 1)
       pub redirected : new.redirected ≡ old.redirected
 
-    -- The keys of the set `from` are in the set `to`, whose value counts them, too. The value t of
-    -- `from` is removed.
+    -- The set `from` is merged into `to`, and its value t removed.
     pub record IsAbsorbed (following : Gen → Gen) (to from : ℕ × Gen) (t : V) : Type 0 where
       pub differ : to ≢ from
       pub moved : (i : ℕ) → set_at old i ≡ Some from → set_at new i ≡ Some to
@@ -85,8 +81,7 @@ module _ {Gen K V : Type 0} where
       pub values : new.values ≡ view_after_removal following (view_with_value old.values to.0 (value, size + more)) from.0
       pub redirected : new.redirected ≡ min (old.redirected + more) (2 ^ 128 - 1)
 
-    -- The set v of p and the set w of q are united, and r is the pointer of the two whose set had
-    -- the value t. The larger set keeps its value, or v if both have as many keys.
+    -- The sets of p and q unite; that of r, the smaller or else q's, loses its value t.
     pub record AreUnited (following : Gen → Gen) (p q : ℕ × Gen) (t : V) (r : ℕ × Gen) : Type 0 where
       pub v : ℕ × Gen
       pub w : ℕ × Gen
@@ -100,7 +95,7 @@ module _ {Gen K V : Type 0} where
       pub second_valued : HasValue old w second_value second_size
       pub absorbed : ((second_size ≤ first_size) × IsAbsorbed following v w t × (r ≡ q)) ⊎ ((first_size < second_size) × IsAbsorbed following w v t × (r ≡ p))
 
-    -- The key k at p is removed, and with the last key of its set the value, as o.
+    -- The key k at p is removed, and with a set's last key its value, as o.
     pub record IsKeyTaken (following : Gen → Gen) (p : ℕ × Gen) (k : K) (o : Option V) : Type 0 where
       pub set : ℕ × Gen
       pub stored : entry_in old.keys p.0 ≡ Some (p.1, (k, set))
@@ -130,7 +125,6 @@ module _ {Gen K V : Type 0} where
       pub keys : new.keys ≡ old.keys
       pub redirected : new.redirected ≡ old.redirected
 
-    -- The sets v and w have each other's value.
     pub record AreValuesSwapped (v w : ℕ × Gen) : Type 0 where
       pub first_value : V
       pub first_size : ℕ
@@ -142,8 +136,6 @@ module _ {Gen K V : Type 0} where
       pub keys : new.keys ≡ old.keys
       pub redirected : new.redirected ≡ old.redirected
 
-    -- The set v of p and the set w of q have each other's value, or they are one set and nothing
-    -- changes.
     pub record AreSetsSwapped (p q : ℕ × Gen) : Type 0 where
       pub v : ℕ × Gen
       pub w : ℕ × Gen
@@ -151,7 +143,7 @@ module _ {Gen K V : Type 0} where
       pub second : IsKeyOf old w q
       pub swapped : ((v ≡ w) × (new ≡ old)) ⊎ ((v.0 ≢ w.0) × AreValuesSwapped v w)
 
-    -- The key at p is in a new set, which has the value t. Its former set counts one key less.
+    -- The key at p leaves its set for a new one with the value t.
     pub record IsKeySetApart (p : ℕ × Gen) (t : V) : Type 0 where
       pub set : ℕ × Gen
       pub own : ℕ × Gen
@@ -167,26 +159,23 @@ module _ {Gen K V : Type 0} where
       pub values : new.values ≡ view_with_value grown set.0 (value, size - 1)
       pub redirected : new.redirected ≡ old.redirected
 
-    -- The key at p is alone in a set with the value t. It shared its set before; or it was alone, and
-    -- its value was replaced.
+    -- The key at p is set apart with the value t, or gets t if alone.
     abbrev pub IsKeySplit : ℕ → ℕ × Gen → V → Option V → Type 0
     IsKeySplit greatest p t None = IsKeySetApart p t × GrowsForOneMore greatest old.values new.values
     IsKeySplit greatest p t (Some former) = IsAlone old p × IsValueReplaced p t former
 
-  -- `insert`: a key is inserted into a set of its own, after growths if the arenas were full, or
-  -- one of them could not grow.
+  -- `insert`: a key is inserted into a set of its own, or an arena could not grow.
   abbrev pub InsertsSet : {P : Type 0} → (P → ℕ × Gen) → ℕ → Surjection Gen K V → K → V → Result P ReallocationError → Surjection Gen K V → Type 0
   InsertsSet key greatest old k t result new =
       IsGrowthResult (λ why. RefusesOneMore old.keys why ⊎ RefusesOneMore old.values why)
       (λ p. IsSetAdded old new k t (key p) × GrowsForOneMore greatest old.keys new.keys × GrowsForOneMore greatest old.values new.values) result
 
-  -- `insert_key`: a key is inserted into the set of p, after a growth if the arena of keys was full,
-  -- or it could not.
+  -- `insert_key`: a key is inserted into the set of p, or refused.
   abbrev pub InsertsKey : {P : Type 0} → (P → ℕ × Gen) → ℕ → Surjection Gen K V → P → K → Result P ChainInsertionError → Surjection Gen K V → Type 0
   InsertsKey key greatest old p k result new =
       IsInsertionResult (IsKey old (key p)) (RefusesOneMore old.keys) (λ q. IsKeyAdded old new (key p) k (key q) × GrowsForOneMore greatest old.keys new.keys) result
 
-  -- `union`: the sets of p and q become one, or they are no two sets.
+  -- `union`: the sets of p and q unite, if they are two.
   abbrev pub UnitesSets : {P : Type 0} → (P → ℕ × Gen) → (Gen → Gen) → Surjection Gen K V → P → P → Option (V × P) → Surjection Gen K V → Type 0
   UnitesSets key following old p q None new = (v w : ℕ × Gen) → IsKeyOf old v (key p) → IsKeyOf old w (key q) → v ≡ w
   UnitesSets key following old p q (Some e) new = AreUnited old new following (key p) (key q) e.0 (key e.1)
@@ -201,18 +190,17 @@ module _ {Gen K V : Type 0} where
   ReplacesValueOf key old p t None new = IsKey old (key p) → ⊥
   ReplacesValueOf key old p t (Some former) new = IsValueReplaced old new (key p) t former
 
-  -- `swap_vals`: the sets of p and q have each other's value, if both are valid.
+  -- `swap_vals`: the sets of p and q exchange values, if both are valid.
   abbrev pub SwapsValuesOf : {P : Type 0} → (P → ℕ × Gen) → Surjection Gen K V → P → P → Option (Unit {0}) → Surjection Gen K V → Type 0
   SwapsValuesOf key old p q None new = IsKey old (key p) → IsKey old (key q) → ⊥
   SwapsValuesOf key old p q (Some done) new = AreSetsSwapped old new (key p) (key q)
 
-  -- `split_key`: the key of p comes to be alone in its set, or it could not. Only a key that shares
-  -- its set needs capacity for a value.
+  -- `split_key`: the key of p becomes alone in its set, or is refused.
   abbrev pub SplitsKey : {P : Type 0} → (P → ℕ × Gen) → ℕ → Surjection Gen K V → P → V → Result (Option V) ChainInsertionError → Surjection Gen K V → Type 0
   SplitsKey key greatest old p t result new =
       IsInsertionResult (IsKey old (key p)) (λ why. SharesSet old (key p) × RefusesOneMore old.values why) (λ o. IsKeySplit old new greatest (key p) t o) result
 
-  -- `clear`: no keys and values are left, and whether the counter of keys wrapped is reported.
+  -- `clear`: all keys and values are removed, and an overflow of keys is reported.
   abbrev pub ClearsSets : {P I W : Type 0} → PointerKind P I Gen W → Surjection Gen K V → InvalidationOption Unit → Surjection Gen K V → Type 0
   ClearsSets pointers old result new = record {
     keys : new.keys ≡ view_after_clear pointers.following old.keys;
@@ -221,15 +209,14 @@ module _ {Gen K V : Type 0} where
     overflow : IfSome old.keys.counter (λ g. result ≡ invalidation_option (overflows_after_clear pointers.wraps (count old.keys) g) tt);
   }
 
-  -- `clone`: a copy of both arenas is made, of the keys first, or one of them is refused.
+  -- `clone`: both arenas are copied, keys first, or one is refused.
   abbrev pub CopiesSets : ℕ → Option ℕ → Option ℕ → Surjection Gen K V → Result (Surjection Gen K V) ReallocationError → Type 0
   CopiesSets greatest most_keys most_values old (Ok copy) = IsCopied greatest most_keys old.keys copy.keys × IsCopied greatest most_values old.values copy.values × (copy.redirected ≡ old.redirected)
   CopiesSets greatest most_keys most_values old (Err why) =
       IfSome old.keys.slots (λ slots. RefusesCopy most_keys slots.count why)
       ⊎ (IfSome old.keys.slots (λ slots. IsWithinMaximum most_keys slots.count) × IfSome old.values.slots (λ slots. RefusesCopy most_values slots.count why))
 
-  -- `get_key`, `get_val`, `len_key_set`: the key of p, the value of its set, and how many keys have
-  -- it, if p is valid.
+  -- `get_key`: the key of p, if p is valid.
   abbrev pub ReadsKey : {P : Type 0} → (P → ℕ × Gen) → Surjection Gen K V → P → Option (Bor K) → Type 0
   ReadsKey key s p result = record {
     some : IsSome result ↔ IsKey s (key p);

@@ -1,4 +1,4 @@
--- Compressions: the keys and the values are moved to the indexes from 1, in their order.
+-- Compressions of keys and values.
 use Rattle.std.specs.Prelude.{◌≡◌, ◌↔◌, ℕ, ◌<◌, Bool, List, map, Option, IfSome, Result, Ok, Err, Some}
 use Rattle.arena_core.specs.PointerKinds.{PointerKind}
 use Rattle.arena_core.specs.Invalidation.{invalidation_option}
@@ -9,11 +9,10 @@ use Rattle.arena_traits.specs.Entries.{ArenaView, count, index_of}
 use Rattle.chain_laws.specs.Arrangements.{place_in}
 use Rattle.surject_arena.specs.Surjections.{Surjection, entry_in, IsKey, IsKeyOf, AreInOneSet}
 
--- The place of an index among those of the entries, from 1 on.
+-- The place, from 1, of an index among the entries.
 abbrev pub place_among : {Gen X : Type 0} → List ((ℕ × Gen) × X) → ℕ → Option ℕ
 place_among es i = place_in (map index_of es) i
 
--- The entry of p is moved to q, whose index is its place among the old entries.
 pub record IsMoved {Gen X : Type 0} (old new : ArenaView Gen X) (p q : ℕ × Gen) : Type 0 where
   pub was : IsValid (entry_in old) p
   pub place : place_among old.entries p.0 ≡ Some q.0
@@ -24,9 +23,7 @@ module _ {Gen K V : Type 0} where
   abbrev pub keys_in : Surjection Gen K V → List ((ℕ × Gen) × K)
   keys_in s = map (λ e. (e.0, e.1.0)) s.keys.entries
 
-  -- Keys and values are compressed, so each key is moved. Each value keeps its number of keys, and
-  -- each key its value: it is in the set that its former set is moved to. Keys are in one set exactly
-  -- if they were.
+  -- Keys and values are compressed, and each key keeps its set and value.
   pub record AreSetsCompressed (first : Gen) (following : Gen → Gen) (reset : Bool) (old new : Surjection Gen K V) : Type 0 where
     pub keys : IsCompressed first following reset old.keys new.keys
     pub values : IsCompressed first following reset old.values new.values
@@ -36,8 +33,7 @@ module _ {Gen K V : Type 0} where
     pub together : (p p' q q' : ℕ × Gen) → IsMoved old.keys new.keys p p' → IsMoved old.keys new.keys q q' → AreInOneSet old p q ↔ AreInOneSet new p' q'
     pub redirected : new.redirected ≡ old.redirected
 
-  -- `compress_with`, `compress`: keys and values are compressed, and whether the counter of keys
-  -- wrapped is reported, or there was no memory for the new places of the values.
+  -- `compress_with`, `compress`: keys and values are compressed, or memory was refused.
   abbrev pub CompressesSets : {P I W E : Type 0} → PointerKind P I Gen W → Surjection Gen K V → Bool → Result (InvalidationOption Unit) E → Surjection Gen K V → Type 0
   CompressesSets pointers old reset (Err why) new = 0 < count old.values
   CompressesSets pointers old reset (Ok result) new = record {

@@ -7,12 +7,11 @@ use Rattle.arena_traits.specs.Entries.{ArenaView, view_after_removal}
 use Rattle.chain_laws.specs.Chains.{IsMember, AreDistinct}
 use Rattle.surject_arena.specs.Surjections.{Surjection, entry_in, set_at, IsKey, IsKeyOf, HasValue, AreKeysOf}
 
--- A view after the entries at these indexes are removed, one by one, the first index last.
+-- A view after removals at these indexes, the first one last.
 abbrev pub view_after_removals : {Gen X : Type 0} → (Gen → Gen) → ArenaView Gen X → List ℕ → ArenaView Gen X
 view_after_removals following s [] = s
 view_after_removals following s (i ∷ indexes) = view_after_removal following (view_after_removals following s indexes) i
 
--- A counter after n increments.
 abbrev pub counter_after : {Gen : Type 0} → (Gen → Gen) → ℕ → Gen → Gen
 counter_after following zero g = g
 counter_after following (suc n) g = following (counter_after following n g)
@@ -23,7 +22,6 @@ wraps_within wraps following zero g = false
 wraps_within wraps following (suc n) g = wraps_within wraps following n g || wraps (counter_after following n g)
 
 module _ {Gen K V : Type 0} (old new : Surjection Gen K V) where
-  -- The n keys of the set of p are removed, and its value t. All other keys and values stay.
   pub record IsSetRemoved (following : Gen → Gen) (p : ℕ × Gen) (n : ℕ) (t : V) : Type 0 where
     pub set : ℕ × Gen
     pub key : IsKeyOf old set p
@@ -37,8 +35,7 @@ module _ {Gen K V : Type 0} (old new : Surjection Gen K V) where
     pub values : new.values ≡ view_after_removal following old.values set.0
     pub redirected : new.redirected ≡ old.redirected
 
-  -- Keys of the set of p other than p are removed, and its value t stays, with the number `left` of
-  -- the keys that are left. The flag states whether the counter of keys wrapped.
+  -- Keys of the set of p other than p are removed, and `wrapped` states an overflow.
   pub record IsSetReduced (wraps : Gen → Bool) (following : Gen → Gen) (p : ℕ × Gen) (wrapped : Bool) : Type 0 where
     pub set : ℕ × Gen
     pub key : IsKeyOf old set p
@@ -57,8 +54,7 @@ module _ {Gen K V : Type 0} (old new : Surjection Gen K V) where
     pub redirected : new.redirected ≡ old.redirected
     pub overflow : IfSome old.keys.counter (λ g. wraps_within wraps following (length indexes) g ≡ wrapped)
 
-  -- `remove`: the set of p is removed, with its value, if p is valid. An overflow is reported if the
-  -- counter of keys wrapped in the removal of any of its n keys.
+  -- `remove`: the set of p is removed, if p is valid, and an overflow in any removal reported.
   abbrev pub RemovesSet : {P I W : Type 0} → PointerKind P I Gen W → P → InvalidationResult V → Type 0
   RemovesSet pointers p result = (n : ℕ) × ReportsOverflow (wraps_within pointers.wraps pointers.following n) old.keys.counter (IsKey old (pointers.key p) → ⊥)
       (λ t. IsSetRemoved pointers.following (pointers.key p) n t) result

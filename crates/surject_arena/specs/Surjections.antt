@@ -1,20 +1,17 @@
--- A surjection arena in contracts: keys in sets, and one value for each set.
+-- A surjection arena in contracts.
 use Rattle.std.specs.Prelude.{◌≡◌, ◌↔◌, ◌<◌, ℕ, List, map, length, Option, Some}
 use Rattle.std.specs.Option.{option_map}
 use Rattle.chain_laws.specs.Chains.{IsMember, AreDistinct}
 use Rattle.arena_traits.specs.Arena.{IsValid}
 use Rattle.arena_traits.specs.Entries.{ArenaView, found}
 
--- The keys, each with the name of its set, and the values, each with the number of its keys. Both
--- are views of arenas: entries by ascending index, counter, capacity and maximum. The name of a set
--- is the index and generation of its value; no call takes or returns one. `redirected` counts the
--- keys that unions gave another set.
+-- The keys in sets, named by their values' indexes and generations, and the values, with their
+-- numbers of keys.
 pub record Surjection (Gen K V : Type 0) : Type 0 where
   pub keys : ArenaView Gen (K × (ℕ × Gen))
   pub values : ArenaView Gen (V × ℕ)
   pub redirected : ℕ
 
--- A view with a function applied to each value.
 abbrev pub map_view : {Gen X Y : Type 0} → (X → Y) → ArenaView Gen X → ArenaView Gen Y
 map_view f s = record {
   entries = map (λ e. (e.0, f e.1)) s.entries;
@@ -24,12 +21,11 @@ map_view f s = record {
   maximum = s.maximum;
 }
 
--- The generation and the value at an index of a view.
 abbrev pub entry_in : {Gen X : Type 0} → ArenaView Gen X → ℕ → Option (Gen × X)
 entry_in s i = found i s.entries
 
 module _ {Gen K V : Type 0} (s : Surjection Gen K V) where
-  -- The generation and the key at an index, and the set of that key.
+  -- The generation and the key at an index.
   abbrev pub key_at : ℕ → Option (Gen × K)
   key_at i = option_map (λ e. (e.0, e.1.0)) (entry_in s.keys i)
 
@@ -52,20 +48,20 @@ module _ {Gen K V : Type 0} (s : Surjection Gen K V) where
   abbrev pub HasValue : ℕ × Gen → V → ℕ → Type 0
   HasValue w t n = entry_in s.values w.0 ≡ Some (w.1, (t, n))
 
-  -- p is the pointer of a key, and other keys are in its set.
+  -- The key of p shares its set.
   abbrev pub SharesSet : ℕ × Gen → Type 0
   SharesSet p = (w : ℕ × Gen) × (t : V) × (n : ℕ) × IsKeyOf w p × HasValue w t n × (1 < n)
 
-  -- p is the pointer of a key, which is alone in its set.
+  -- The key of p is alone in its set.
   abbrev pub IsAlone : ℕ × Gen → Type 0
   IsAlone p = (w : ℕ × Gen) × (t : V) × IsKeyOf w p × HasValue w t 1
 
-  -- The keys of the set w are at these indexes, each once.
+  -- The indexes of the keys of the set w, each once.
   pub record AreKeysOf (w : ℕ × Gen) (indexes : List ℕ) : Type 0 where
     pub once : AreDistinct indexes
     pub members : (i : ℕ) → IsMember indexes i ↔ (set_at i ≡ Some w)
 
-  -- Each key has a value. Each value has the keys that it counts, at least one.
+  -- Each key has a value, and each value the keys that it counts, at least one.
   pub record IsSurjection : Type 0 where
     pub valued : (i : ℕ) (w : ℕ × Gen) → set_at i ≡ Some w → (t : V) × (n : ℕ) × HasValue w t n
     pub counted : (w : ℕ × Gen) (t : V) (n : ℕ) → HasValue w t n → (indexes : List ℕ) × AreKeysOf w indexes × (length indexes ≡ n)

@@ -47,17 +47,13 @@ impl<
     A: CloneChainArenaTrait<P, Member<P, K>> + Drop,
     B: CloneArenaTrait<P, Counted<V>> + Drop,
 > SurjectArena<P, K, V, A, B> {
-    /// Returns a copy over new slots, with clones of the keys and values, which have to equal them.
-    ///
-    /// All pointers are valid in the copy, too. A maximum is not copied.
+    /// Returns a copy with the same pointers and clones, which have to be equal, but without a
+    /// maximum.
     ///
     /// # Errors
     ///
-    /// In the order in which they are tested, for the keys and then for the values:
-    ///
-    /// - `BeyondMaxCapacity`: there are more slots than the maximum of new slots.
-    /// - `AllocError`: an allocation failed, for the slots or in the clone of a key or value.
-    ///   Without slots none can.
+    /// - `BeyondMaxCapacity`: there are more slots than a new maximum.
+    /// - `AllocError`: an allocation failed.
     pub fn clone(&self, alloc: Global) -> Result<Self, ReallocationError>
         requires keys_equal { (x y : K) → K.is_clone x y → y ≡ x }
         requires values_equal { (x y : V) → V.is_clone x y → y ≡ x }

@@ -1,4 +1,4 @@
-// Compressions of the arenas of keys and values.
+// Compressions of both arenas.
 ghost use Rattle.std.specs.Prelude.{◌≡◌, ℕ, ◌<◌, ◌≤◌, map, All, IfOk, OnErr, Some, slice_index_or};
 ghost use Rattle.arena_core.specs.Numbers.{IsWithin};
 ghost use Rattle.arena_traits.specs.CallOutcomes.{CompressesEntries};
@@ -14,7 +14,6 @@ use arena_traits::{Advancer, ArenaTrait};
 use chain_traits::ChainArenaTrait;
 use std::alloc::{AllocError, Global};
 
-// Returns the index of a pointer as a number.
 fn index_number<P: PtrKey>(p: P) -> usize
     ensures { result ≡ (P.key p).0 }
 {
@@ -24,8 +23,7 @@ fn index_number<P: PtrKey>(p: P) -> usize
     }
 }
 
-// The new names of sets: the place of each value, at its former index, and the new pointer of the
-// first value.
+// Places by former index, and the first value's new pointer.
 #[derive(Drop)]
 pub(crate) struct Names<P: PtrKey> {
     pub(crate) places: Vec<usize>,
@@ -33,7 +31,6 @@ pub(crate) struct Names<P: PtrKey> {
 }
 
 impl<P: PtrKey> Names<P> {
-    // Returns the new pointer of the value of `w`.
     pub(crate) fn new_name(&self, w: P) -> P
         ensures { (k : ℕ) → slice_index_or self.now.places.items (P.key w).0 0 ≡ k → 1 ≤ k
             → k ≤ P.Inx.greatest → P.key result ≡ (k, (P.key self.now.first).1) }
@@ -49,7 +46,6 @@ impl<P: PtrKey> Names<P> {
     }
 }
 
-// Returns the place of each value in the order of indexes, at its index.
 pub(crate) fn places_of<P: PtrKey, V: Drop, B: ArenaTrait<P, Counted<V>>>(
     values: &B,
     alloc: Global,
@@ -71,7 +67,6 @@ pub(crate) fn places_of<P: PtrKey, V: Drop, B: ArenaTrait<P, Counted<V>>>(
     Ok(places)
 }
 
-// Compacts the values, and returns the new pointer of the first one, or any pointer without values.
 pub(crate) fn compress_values<P: PtrKey, V: Drop, B: ArenaTrait<P, Counted<V>>>(
     values: &mut B,
     reset: bool,
@@ -90,7 +85,6 @@ pub(crate) fn compress_values<P: PtrKey, V: Drop, B: ArenaTrait<P, Counted<V>>>(
     }
 }
 
-// What a compression does to each key: it calls a closure, and renames the key's set.
 #[derive(Drop)]
 struct KeyVisitor<'a, P: PtrKey, F> {
     names: &'a Names<P>,
@@ -113,8 +107,7 @@ impl<'a, P: PtrKey, F> KeyVisitor<'a, P, F> {
     }
 }
 
-// Compacts the keys, and calls a closure with each and its set. Two clauses with labels are a goal
-// each: `reset` says nothing, but so the proof that a closure is callable is short.
+// `reset` states nothing, but splits the goals, so the closure's proof is short.
 fn compress_members<
     P: PtrKey,
     K: Drop,
@@ -132,7 +125,6 @@ fn compress_members<
     keys.compress_with(reset, map)
 }
 
-// Compacts the keys, renames the set of each, and calls a closure with each.
 pub(crate) fn compress_keys<
     P: PtrKey,
     K: Drop,

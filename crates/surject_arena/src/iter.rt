@@ -1,4 +1,4 @@
-// All keys, by ascending index, without memory.
+// All keys.
 ghost use Rattle.std.specs.Prelude.{◌≡◌, map};
 ghost use Rattle.std.specs.Iterator.{YieldsFirstBy, item_count};
 
@@ -8,9 +8,7 @@ use arena_traits::Advancer;
 use chain_traits::ChainArenaTrait;
 use std::marker::{Model, PhantomData};
 
-/// An iterator over the pointers of all keys, seen as the list of those left.
-///
-/// Made by `SurjectArena::iter`.
+/// An iterator over the pointers of all keys.
 #[derive(Drop)]
 pub struct Iter<'a, P: PtrKey, K: Drop, A: ChainArenaTrait<P, Member<P, K>>> {
     keys: &'a A,
@@ -30,7 +28,6 @@ impl<'a, P: PtrKey, K: Drop, A: ChainArenaTrait<P, Member<P, K>>> Model for Iter
     ghost invariant = { λ it. IsAscending (A.cursor it.all) };
 }
 
-// Returns an iterator over all keys of an arena.
 pub(crate) fn all_keys<P: PtrKey, K: Drop, A: ChainArenaTrait<P, Member<P, K>>>(
     keys: &A,
 ) -> Iter<'_, P, K, A>

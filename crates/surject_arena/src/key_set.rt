@@ -1,4 +1,4 @@
-// The keys of one set, without memory.
+// The keys of one set.
 ghost use Rattle.std.specs.Prelude.{◌≡◌};
 ghost use Rattle.std.specs.Iterator.{YieldsFirstBy, item_count};
 ghost use Rattle.surject_arena.specs.KeySets.{ListsKeys};
@@ -10,9 +10,7 @@ use chain_traits::ChainArenaTrait;
 use chain_traits::walks::advancer_passes_the_walk;
 use std::marker::{Model, PhantomData};
 
-/// An iterator over the pointers of the keys of one set, seen as the list of those left.
-///
-/// Made by `SurjectArena::key_set`.
+/// An iterator over the pointers of a set.
 #[derive(Drop)]
 pub struct KeySet<'a, P: PtrKey, K: Drop, A: ChainArenaTrait<P, Member<P, K>>> {
     keys: &'a A,
@@ -31,7 +29,6 @@ impl<'a, P: PtrKey, K: Drop, A: ChainArenaTrait<P, Member<P, K>>> Model for KeyS
         (A.walker it.along)) };
 }
 
-// Returns an iterator over the keys of the set of `p`, or `None` if `p` is not valid.
 pub(crate) fn keys_from<P: PtrKey, K: Drop, A: ChainArenaTrait<P, Member<P, K>>>(
     keys: &A,
     p: P,

@@ -1,4 +1,4 @@
-// Calls on the arena of keys, in which the keys of a set are one cyclic chain.
+// Calls on the keys, with one cyclic chain for each set.
 ghost use Rattle.std.specs.Prelude.{◌≡◌, ◌↔◌, ℕ, List, [], ◌∷◌, ◌++◌, Some, IsTrue, IsSome, IfSome};
 ghost use Rattle.std.specs.Option.{option_map, option_and_then};
 ghost use Rattle.arena_traits.specs.Arena.{IsValid};
@@ -14,7 +14,6 @@ use arena_ptr::{InxKey, PtrKey};
 use chain_traits::ChainArenaTrait;
 use chain_traits::walks::for_each_in_chain;
 
-// Returns the pointer of the value of a key's set, or `None` if `p` is not valid.
 pub(crate) fn set_of<P: PtrKey, K: Drop, A: ChainArenaTrait<P, Member<P, K>>>(
     keys: &A,
     p: P,
@@ -29,7 +28,6 @@ pub(crate) fn set_of<P: PtrKey, K: Drop, A: ChainArenaTrait<P, Member<P, K>>>(
     }
 }
 
-// Returns whether `p` is valid and its key is in the set of `w`.
 pub(crate) fn is_in_set<P: PtrKey, K: Drop, A: ChainArenaTrait<P, Member<P, K>>>(
     keys: &A,
     p: P,
@@ -44,7 +42,6 @@ pub(crate) fn is_in_set<P: PtrKey, K: Drop, A: ChainArenaTrait<P, Member<P, K>>>
     }
 }
 
-// Puts a key into another set; its chain stays.
 pub(crate) fn put_into<P: PtrKey, K: Drop, A: ChainArenaTrait<P, Member<P, K>>>(
     keys: &mut A,
     p: P,
@@ -60,7 +57,6 @@ pub(crate) fn put_into<P: PtrKey, K: Drop, A: ChainArenaTrait<P, Member<P, K>>>(
     }
 }
 
-// Returns the pointer of the key before a key in its chain.
 fn before<P: PtrKey, K: Drop, A: ChainArenaTrait<P, Member<P, K>>>(keys: &A, p: P) -> Option<P>
     ensures { IsValid (A.entry keys.now) (P.key p) → option_map P.key result
         ≡ option_and_then (ptr_at (A.entry keys.now))
@@ -72,7 +68,6 @@ fn before<P: PtrKey, K: Drop, A: ChainArenaTrait<P, Member<P, K>>>(keys: &A, p: 
     }
 }
 
-// Returns the pointer of the key after a key in its chain.
 pub(crate) fn key_after<P: PtrKey, K: Drop, A: ChainArenaTrait<P, Member<P, K>>>(
     keys: &A,
     p: P,
@@ -88,7 +83,6 @@ pub(crate) fn key_after<P: PtrKey, K: Drop, A: ChainArenaTrait<P, Member<P, K>>>
     }
 }
 
-// Takes a key out of its cyclic chain, in which `j` is before it, as a cyclic chain of its own.
 pub(crate) fn leave_ring<P: PtrKey, K: Drop, A: ChainArenaTrait<P, Member<P, K>>>(
     keys: &mut A,
     p: P,
@@ -106,7 +100,6 @@ pub(crate) fn leave_ring<P: PtrKey, K: Drop, A: ChainArenaTrait<P, Member<P, K>>
     }
 }
 
-// Puts all keys of the chain of `q` into another set.
 pub(crate) fn redirect<P: PtrKey, K: Drop, A: ChainArenaTrait<P, Member<P, K>>>(
     keys: &mut A,
     q: P,

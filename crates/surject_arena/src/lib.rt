@@ -1,9 +1,4 @@
-//! A surjection arena: keys in sets, and one value for each set.
-//!
-//! The keys are in an arena of links, in which the keys of a set are one cyclic chain. The values
-//! are in a plain arena, each with the number of its keys. Sets are united in time in proportion to
-//! the smaller one, and looked up in O(1), so this is a union-find whose sets can be listed, shrunk
-//! and taken apart.
+//! Keys in sets with one value each: a union-find whose sets can be listed, shrunk and split.
 #![tactic(auto)]
 
 mod clones;

@@ -1,13 +1,13 @@
-// The entries of the two arenas.
+// The entries.
 
-/// A key, with the pointer of the value of its set.
+/// A key and the pointer of its value.
 #[derive(Drop)]
 pub struct Member<P, K> {
     pub(crate) key: K,
     pub(crate) set: P,
 }
 
-/// A value, with the number of its keys.
+/// A value and its number of keys.
 #[derive(Drop)]
 pub struct Counted<V> {
     pub(crate) value: V,

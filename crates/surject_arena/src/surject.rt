@@ -32,12 +32,8 @@ use std::marker::{Model, PhantomData};
 
 /// An arena of keys in sets, each set with one value.
 ///
-/// `insert` inserts a key into a set of its own and returns the key's pointer, which identifies the
-/// key until it is removed. Any key of a set leads to its value. A value is removed with the last
-/// key of its set, so each value always has a key.
-///
-/// Contracts see a record `Surjection`: the keys, each with the name of its set, and the values,
-/// each with the number of its keys.
+/// A pointer is valid if it is that of a key. Overflows are those of the counter of keys. On error,
+/// only `insert` changes the arena: the capacity for keys may grow.
 ///
 /// Named as `triple_arena::SurjectArena`.
 #[derive(Drop)]
@@ -81,7 +77,7 @@ impl<
 > SurjectArena<P, K, V, A, B> {
     ghost use Rattle.surject_arena.specs.contracts.surject.SurjectArena.{the_row};
 
-    /// Returns an arena without keys and values, without allocating.
+    /// Returns an empty arena without allocating.
     pub fn new(alloc: Global) -> Self
         ensures { StartsEmpty P.Gen.first result }
     {
@@ -93,12 +89,12 @@ impl<
         }
     }
 
-    /// Returns an arena without keys and values, with a capacity of at least so many of each.
+    /// Returns an empty arena with at least these capacities.
     ///
     /// # Errors
     ///
-    /// `AllocError`: `keys` or `values` is above the greatest index or the maximum of a new stack,
-    /// or an allocation failed.
+    /// - `AllocError`: a capacity exceeds the greatest index or a new maximum, or an allocation
+    ///   failed.
     pub fn with_capacity(alloc: Global, keys: usize, values: usize) -> Result<Self, AllocError>
         ensures { StartsWithCapacities P.Gen.first P.Inx.greatest keys values result }
     {
@@ -124,60 +120,56 @@ impl<
         self.keys.len()
     }
 
-    /// Returns the number of values, which is the number of sets.
+    /// Returns the number of values.
     pub fn len_vals(&self) -> usize
         ensures { result ≡ count self.now.values }
     {
         self.values.len()
     }
 
-    /// Returns the number of keys that fit without growth.
+    /// Returns the capacity for keys.
     pub fn capacity_keys(&self) -> usize
         ensures { result ≡ self.now.keys.capacity }
     {
         self.keys.capacity()
     }
 
-    /// Returns the number of values that fit without growth.
+    /// Returns the capacity for values.
     pub fn capacity_vals(&self) -> usize
         ensures { result ≡ self.now.values.capacity }
     {
         self.values.capacity()
     }
 
-    /// Returns how many keys unions have given another set so far, at most 2^128 - 1.
+    /// Returns how many keys unions have redirected, at most 2^128 - 1.
     pub fn redirected(&self) -> u128
         ensures { result ≡ self.now.redirected }
     {
         self.redirected
     }
 
-    /// States that each key has a value, and each value the keys that it counts, at least one.
-    ///
-    /// Has no effect.
+    /// States that each key has a value, and each value its counted keys, at least one.
     pub fn invariants(&self)
         ensures { IsSurjection self.now }
     {
         let _ = &self.keys;
     }
 
-    /// States that the keys ascend by index, so each index has at most one key.
-    ///
-    /// Has no effect.
+    /// States that the keys ascend by index.
     pub fn keys_ascend(&self)
         ensures { AscendsFrom 1 self.now.keys.entries }
     {
         self.keys.agrees();
     }
 
-    /// Returns whether `p` is the pointer of a key.
+    /// Returns whether `p` is valid.
     pub fn contains(&self, p: P) -> bool
         ensures { IsTrue result ↔ IsKey self.now (P.key p) }
     {
         self.keys.contains(p)
     }
 
-    /// Returns whether `p` and `q` are pointers of keys in one set.
+    /// Returns whether two pointers are of keys in one set.
     pub fn in_same_set(&self, p: P, q: P) -> bool
         ensures { IsTrue result ↔ AreInOneSet self.now (P.key p) (P.key q) }
     {
@@ -187,7 +179,7 @@ impl<
         }
     }
 
-    /// Returns the number of keys in the set of `p`, or `None` if `p` is not the pointer of a key.
+    /// Returns the number of keys in the set of `p`, if valid.
     pub fn len_key_set(&self, p: P) -> Option<usize>
         ensures { CountsKeys P.key self.now p result }
     {
@@ -197,7 +189,7 @@ impl<
         }
     }
 
-    /// Returns a key, or `None` if `p` is not its pointer.
+    /// Returns the key of `p`, if valid.
     pub fn get_key(&self, p: P) -> Option<&K>
         ensures { ReadsKey P.key self.now p result }
     {
@@ -207,7 +199,7 @@ impl<
         }
     }
 
-    /// Returns the value of the set of `p`, or `None` if `p` is not the pointer of a key.
+    /// Returns the value of the set of `p`, if valid.
     pub fn get_val(&self, p: P) -> Option<&V>
         ensures { ReadsValue P.key self.now p result }
     {
@@ -220,26 +212,21 @@ impl<
         }
     }
 
-    /// Returns an iterator over the pointers of the keys in the set of `p`, each once, or `None` if
-    /// `p` is not the pointer of a key.
-    ///
-    /// It begins with `p` and does not allocate.
+    /// Returns an iterator over the pointers of the set of `p`, from `p` on, if valid.
     pub fn key_set(&self, p: P) -> Option<KeySet<'_, P, K, A>>
         ensures { ListsSet self.now P.key p result }
     {
         keys_from(&self.keys, p)
     }
 
-    /// Returns an iterator over the pointers of all keys, each once, by ascending index.
+    /// Returns an iterator over the pointers of all keys, by ascending index.
     pub fn iter(&self) -> Iter<'_, P, K, A>
         ensures { result ≡ all_pointers self.now }
     {
         all_keys(&self.keys)
     }
 
-    /// Returns a key, for writing, or `None` if `p` is not its pointer.
-    ///
-    /// Writing through the reference keeps the sets, the values and all pointers.
+    /// Returns the key of `p` for writing, if valid.
     pub fn get_key_mut(&mut self, p: P) -> Option<&mut K>
         ensures* writes_back { sem 𝓛 (LendsSo
             (the_row P.row K.row V.row A.row B.row P.Inx.row P.Gen.row P.Inx.Word.row
@@ -261,10 +248,7 @@ impl<
         }
     }
 
-    /// Returns the value of the set of `p`, for writing, or `None` if `p` is not the pointer of a
-    /// key.
-    ///
-    /// Writing through the reference keeps the sets, the keys and all pointers.
+    /// Returns the value of the set of `p` for writing, if valid.
     pub fn get_val_mut(&mut self, p: P) -> Option<&mut V>
         ensures* writes_back { sem 𝓛 (LendsSo
             (the_row P.row K.row V.row A.row B.row P.Inx.row P.Gen.row P.Inx.Word.row
@@ -289,7 +273,6 @@ impl<
         }
     }
 
-    // Grows to a capacity for one more key, if there is none.
     fn reserve_key(&mut self) -> Result<(), ReallocationError>
         ensures outcome { IsGrowthResult (RefusesOneMore self.old.keys)
             (λ done. GrowsForOneMore P.Inx.greatest self.old.keys self.new.keys) result }
@@ -301,7 +284,6 @@ impl<
         self.keys.reallocate_min_capacity(n + 1)
     }
 
-    // Inserts a key into a new set, within the capacity for keys.
     fn insert_within_keys(&mut self, k: K, v: V) -> Result<P, ReallocationError>
         requires { HasFreeCapacity self.old.keys }
         ensures outcome { IsGrowthResult (RefusesOneMore self.old.values)
@@ -326,15 +308,12 @@ impl<
         }
     }
 
-    /// Inserts a key into a set of its own, which has the value `v`, and returns the key's pointer.
+    /// Inserts a key into its own set with the value `v`, and returns its pointer.
     ///
     /// # Errors
     ///
-    /// - `BeyondMaxCapacity`: one more key or value is above a maximum.
-    /// - `AllocError`: one more key or value is above the greatest index, or an allocation failed.
-    ///
-    /// On error the keys and the values are unchanged, and `k` and `v` are dropped. The capacity for
-    /// keys may have grown.
+    /// - `BeyondMaxCapacity`: a maximum is reached.
+    /// - `AllocError`: an allocation failed, or the greatest index is reached.
     pub fn insert(&mut self, k: K, v: V) -> Result<P, ReallocationError>
         ensures outcome { InsertsSet P.key P.Inx.greatest self.old k v result self.new }
         ensures err { OnErr result (GrowsKeys self.old self.new) }
@@ -345,17 +324,13 @@ impl<
         }
     }
 
-    /// Inserts a key into the set of `p` and returns the new key's pointer.
+    /// Inserts a key into the set of `p` and returns its pointer.
     ///
     /// # Errors
     ///
-    /// In the order in which they are tested:
-    ///
-    /// - `FailedLinkRequirement`: `p` is not the pointer of a key.
-    /// - `BeyondMaxCapacity`: one more key is above the maximum.
-    /// - `AllocError`: one more key is above the greatest index, or an allocation failed.
-    ///
-    /// On error the arena is unchanged, and `k` is dropped.
+    /// - `FailedLinkRequirement`: `p` is invalid.
+    /// - `BeyondMaxCapacity`: the maximum of keys is reached.
+    /// - `AllocError`: an allocation failed, or the greatest index is reached.
     pub fn insert_key(&mut self, p: P, k: K) -> Result<P, ChainInsertionError>
         ensures outcome { InsertsKey P.key P.Inx.greatest self.old p k result self.new }
         ensures err { OnErr result (self.new ≡ self.old) }
@@ -379,10 +354,6 @@ impl<
     }
 
     /// Removes a key, and with the last key of its set the value, and returns both.
-    ///
-    /// The other keys stay in their sets. The counter of keys is incremented; if that wraps to two,
-    /// the key is removed and returned in `GenerationOverflow`. Returns `InvalidPtr` if `p` is not
-    /// the pointer of a key; nothing changes then.
     pub fn remove_key(&mut self, p: P) -> InvalidationResult<(K, Option<V>)>
         ensures outcome { RemovesKey ⟦<P as AnyPointer>⟧.pointers self.old p result self.new }
         ensures invalid { IfNone (value_within result) (self.new ≡ self.old) }
@@ -399,7 +370,6 @@ impl<
         }
     }
 
-    // Returns the key after `p` in its set, unless that is `p` itself.
     fn beside(&self, p: P) -> Option<P>
         ensures some { IfSome result (λ q. AreInOneSet self.now (P.key p) (P.key q)
             × SharesSet self.now (P.key p) × ((P.key q).0 ≢ (P.key p).0)) }
@@ -412,8 +382,6 @@ impl<
         Some(q)
     }
 
-    // Removes the other keys of the set of `p`, and returns whether the counter of keys wrapped, or
-    // `None` if `p` is not the pointer of a key; nothing changes then.
     fn remove_others(&mut self, p: P) -> Option<bool>
         ensures { MatchOption result ((IsKey self.old (P.key p) → ⊥) × (self.new ≡ self.old))
             (λ wrapped. IsSetReduced self.old self.new P.Gen.wraps P.Gen.following (P.key p) wrapped
@@ -432,11 +400,9 @@ impl<
         Some(wrapped)
     }
 
-    /// Removes the set of `p`, all of its keys and their value, and returns the value.
+    /// Removes the set of `p` and returns its value.
     ///
-    /// The keys are dropped. The counter of keys is incremented for each of them; if that wraps to
-    /// two, the set is removed all the same, and the value is returned in `GenerationOverflow`.
-    /// Returns `InvalidPtr` if `p` is not the pointer of a key; nothing changes then.
+    /// The counter of keys is incremented for each key.
     pub fn remove(&mut self, p: P) -> InvalidationResult<V>
         ensures outcome { RemovesSet self.old self.new ⟦<P as AnyPointer>⟧.pointers p result }
         ensures invalid { IfNone (value_within result) (self.new ≡ self.old) }
@@ -457,9 +423,7 @@ impl<
         }
     }
 
-    /// Replaces the value of the set of `p` and returns the former one.
-    ///
-    /// Returns `None` if `p` is not the pointer of a key; nothing changes then, and `v` is dropped.
+    /// Replaces the value of the set of `p` and returns the former one, if valid.
     pub fn replace_val(&mut self, p: P, v: V) -> Option<V>
         ensures outcome { ReplacesValueOf P.key self.old p v result self.new }
         ensures none { IfNone result (self.new ≡ self.old) }
@@ -470,10 +434,7 @@ impl<
         }
     }
 
-    /// Exchanges the values of the sets of `p` and `q`.
-    ///
-    /// The sets keep their keys. If they are one set, nothing changes. Returns `None` if `p` or `q`
-    /// is not the pointer of a key; nothing changes then.
+    /// Exchanges the values of the sets of `p` and `q`, if both are valid.
     pub fn swap_vals(&mut self, p: P, q: P) -> Option<()>
         ensures outcome { SwapsValuesOf P.key self.old p q result self.new }
         ensures none { IfNone result (self.new ≡ self.old) }
@@ -487,7 +448,6 @@ impl<
         Some(())
     }
 
-    // Puts a key that is not alone in its set `w` into a new set, which has the value `v`.
     fn set_apart(&mut self, p: P, w: P, v: V) -> Result<(), ReallocationError>
         requires key { IsKeyOf self.old (P.key w) (P.key p) }
         requires shared { (t : V) (n : ℕ) → HasValue self.old (P.key w) t n → 1 < n }
@@ -510,21 +470,15 @@ impl<
         Ok(())
     }
 
-    /// Puts a key into a set of its own, which has the value `v`. The pointer of the key stays.
-    ///
-    /// The other keys of its former set stay there, with their value. If there are none, the value
-    /// is replaced, and the former one is returned.
+    /// Moves a key into its own set with the value `v`, or if it was alone, replaces its value and
+    /// returns the former one.
     ///
     /// # Errors
     ///
-    /// In the order in which they are tested:
-    ///
-    /// - `FailedLinkRequirement`: `p` is not the pointer of a key.
-    /// - `BeyondMaxCapacity`: the key is not alone, and one more value is above the maximum.
-    /// - `AllocError`: the key is not alone, and one more value is above the greatest index, or an
-    ///   allocation failed.
-    ///
-    /// On error the arena is unchanged, and `v` is dropped.
+    /// - `FailedLinkRequirement`: `p` is invalid.
+    /// - `BeyondMaxCapacity`: the key is not alone, and the maximum of values is reached.
+    /// - `AllocError`: the key is not alone, and an allocation failed or the greatest index is
+    ///   reached.
     pub fn split_key(&mut self, p: P, v: V) -> Result<Option<V>, ChainInsertionError>
         ensures outcome { SplitsKey P.key P.Inx.greatest self.old p v result self.new }
         ensures err { OnErr result (self.new ≡ self.old) }
@@ -542,10 +496,7 @@ impl<
         Ok(replace_value(&mut self.values, w, v))
     }
 
-    /// Removes all keys and values. The capacities stay.
-    ///
-    /// Each counter is incremented once if there were entries. Returns `GenerationOverflow` if that
-    /// of the keys wrapped to two.
+    /// Removes all keys and values; the capacities stay.
     pub fn clear(&mut self) -> InvalidationOption<()>
         ensures { ClearsSets ⟦<P as AnyPointer>⟧.pointers self.old result self.new }
     {
@@ -553,19 +504,14 @@ impl<
         self.keys.clear()
     }
 
-    /// Compacts the keys: the key of the k-th least index is moved to index k. So are the values.
+    /// Moves the keys, and the values, to the indexes from 1, in their order.
     ///
-    /// In that order, `map` is called once for each key, with its old pointer, the key, for writing,
-    /// and its new pointer. Two keys are in one set exactly if they were before, and each set keeps
-    /// its value. The capacities stay.
-    ///
-    /// With `reset` both counters become two. Otherwise the counter of an arena with entries is
-    /// incremented once. Returns `GenerationOverflow` if that of the keys wrapped to two.
+    /// In that order, `map` gets each key's old pointer, the key, and its new pointer. With `reset`
+    /// both counters become two; otherwise each is incremented if there are entries.
     ///
     /// # Errors
     ///
-    /// `AllocError`: there are values, and the allocation of a number for each index up to their
-    /// greatest failed. Nothing changes then, and `map` is not called.
+    /// - `AllocError`: an allocation failed; `map` is not called.
     pub fn compress_with<F: FnMut(P, &mut K, P) + Drop>(
         &mut self,
         alloc: Global,
@@ -588,15 +534,11 @@ impl<
         Ok(compress_keys(&mut self.keys, reset, &names, map))
     }
 
-    /// Compacts the keys and the values as `compress_with` does, without a closure. Each key stays
-    /// the same.
-    ///
-    /// Returns `GenerationOverflow` if the counter of keys wrapped to two.
+    /// Compacts as `compress_with` does, without a closure.
     ///
     /// # Errors
     ///
-    /// `AllocError`: there are values, and the allocation of a number for each index up to their
-    /// greatest failed. Nothing changes then.
+    /// - `AllocError`: an allocation failed.
     pub fn compress(
         &mut self,
         alloc: Global,
@@ -611,8 +553,6 @@ impl<
         self.compress_with(alloc, reset, |_p: P, _k: &mut K, _q: P| {})
     }
 
-    // Puts the keys of the set `w`, of which `q` is one, into the set `v`, of which `p` is one.
-    // Returns the value of `w`.
     fn absorb(&mut self, p: P, v: P, q: P, w: P) -> V
         requires first { IsKeyOf self.old (P.key v) (P.key p) }
         requires second { IsKeyOf self.old (P.key w) (P.key q) }
@@ -632,13 +572,10 @@ impl<
         }
     }
 
-    /// Unites the sets of `p` and `q`. The larger set keeps its value, or that of `p` if both have
-    /// as many keys.
+    /// Unites the sets of `p` and `q`, redirecting each key of the smaller one.
     ///
-    /// Returns the value of the other set, and `p` or `q`, whichever was in that set. Returns `None`
-    /// if `p` or `q` is not the pointer of a key, or both are in one set; nothing changes then.
-    ///
-    /// The keys of the smaller set are redirected, one by one.
+    /// The larger set, or that of `p` if equal, keeps its value. Returns the other value and
+    /// pointer, or `None` unless there are two sets.
     pub fn union(&mut self, p: P, q: P) -> Option<(V, P)>
         ensures outcome { UnitesSets P.key P.Gen.following self.old p q result self.new }
         ensures none { IfNone result (self.new ≡ self.old) }

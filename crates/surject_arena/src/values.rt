@@ -1,4 +1,4 @@
-// Calls on the arena of values, each with the number of its keys.
+// Calls on the values.
 ghost use Rattle.std.specs.Prelude.{◌≡◌, ◌≢◌, ◌≤◌, ◌<◌, ◌-◌, ℕ, Some, None};
 ghost use Rattle.arena_traits.specs.Entries.{view_with_value, view_after_removal};
 ghost use Rattle.surject_arena.specs.Partitions.{counted, size_in};
@@ -8,7 +8,6 @@ use arena_ptr::{GenKey, InxKey, PtrKey};
 use arena_traits::{ArenaTrait, PlainArenaTrait};
 use std::mem;
 
-// Returns the number of keys of a value.
 pub(crate) fn size_of<P: PtrKey, V: Drop, B: ArenaTrait<P, Counted<V>>>(values: &B, w: P) -> usize
     ensures { (n : ℕ) → size_in (B.entry values.now) (P.key w).0 ≡ Some ((P.key w).1, n)
         → result ≡ n }
@@ -19,7 +18,6 @@ pub(crate) fn size_of<P: PtrKey, V: Drop, B: ArenaTrait<P, Counted<V>>>(values: 
     }
 }
 
-// Writes the number of keys of a value.
 pub(crate) fn set_size<P: PtrKey, V: Drop, B: ArenaTrait<P, Counted<V>>>(
     values: &mut B,
     w: P,
@@ -34,7 +32,6 @@ pub(crate) fn set_size<P: PtrKey, V: Drop, B: ArenaTrait<P, Counted<V>>>(
     }
 }
 
-// Writes a value, and returns the former one.
 pub(crate) fn replace_value<P: PtrKey, V: Drop, B: ArenaTrait<P, Counted<V>>>(
     values: &mut B,
     w: P,
@@ -50,7 +47,7 @@ pub(crate) fn replace_value<P: PtrKey, V: Drop, B: ArenaTrait<P, Counted<V>>>(
     }
 }
 
-// Exchanges the values of two sets, which keep their numbers of keys.
+// Each set keeps its number of keys.
 pub(crate) fn swap_values<P: PtrKey, V: Drop, B: PlainArenaTrait<P, Counted<V>>>(
     values: &mut B,
     v: P,
@@ -69,7 +66,6 @@ pub(crate) fn swap_values<P: PtrKey, V: Drop, B: PlainArenaTrait<P, Counted<V>>>
     values.swap(v, w);
 }
 
-// Removes a value and returns it.
 pub(crate) fn take_value<P: PtrKey, V: Drop, B: ArenaTrait<P, Counted<V>>>(
     values: &mut B,
     w: P,
@@ -84,7 +80,6 @@ pub(crate) fn take_value<P: PtrKey, V: Drop, B: ArenaTrait<P, Counted<V>>>(
     }
 }
 
-// Counts one key less, or removes and returns the value if that was its only key.
 pub(crate) fn release<P: PtrKey, V: Drop, B: ArenaTrait<P, Counted<V>>>(
     values: &mut B,
     w: P,
