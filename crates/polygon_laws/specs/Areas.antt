@@ -1,7 +1,6 @@
--- The signed area of polygons.
+-- Signed areas.
 use Rattle.std.specs.Prelude.{◌≡◌, ℤ, pos, neg_ℤ, ◌+ℤ◌, ◌-ℤ◌, ◌*ℤ◌, List, [], ◌∷◌, ◌++◌, reverse}
 
--- The coordinates of a corner.
 abbrev pub Point : Type 0
 Point = ℤ × ℤ
 
@@ -9,46 +8,38 @@ Point = ℤ × ℤ
 abbrev pub edge_area : Point → Point → ℤ
 edge_area p q = p.0 *ℤ q.1 -ℤ q.0 *ℤ p.1
 
--- The sum over the edges of an open path.
 abbrev pub path_area : List Point → ℤ
 path_area [] = pos 0
 path_area (p ∷ []) = pos 0
 path_area (p ∷ q ∷ ps) = edge_area p q +ℤ path_area (q ∷ ps)
 
--- Twice the signed area of the polygon with these corners: positive if they turn counterclockwise.
+-- Twice the signed area: positive if the corners turn counterclockwise.
 abbrev pub double_area : List Point → ℤ
 double_area [] = pos 0
 double_area (p ∷ ps) = path_area (p ∷ ps ++ p ∷ [])
 
--- Twice the signed area of a triangle: positive if r is to the left of the line from p to q, 0 if it
--- is on that line. The differences stay small where the coordinates are.
+-- Twice the signed area of a triangle: positive if r is left of the line from p to q.
 abbrev pub orientation : Point → Point → Point → ℤ
 orientation p q r = (q.0 -ℤ p.0) *ℤ (r.1 -ℤ p.1) -ℤ (r.0 -ℤ p.0) *ℤ (q.1 -ℤ p.1)
 
--- The area of three corners is their orientation.
 abbrev pub TriangleIsOriented : Type 0
 TriangleIsOriented = (p q r : Point) → double_area (p ∷ q ∷ r ∷ []) ≡ orientation p q r
 
--- Points and edges have no area.
 abbrev pub AreaIsZeroWithoutEdges : Type 0
 AreaIsZeroWithoutEdges = (p q : Point) → (double_area (p ∷ []) ≡ pos 0) × (double_area (p ∷ q ∷ []) ≡ pos 0)
 
--- The area is the same from whichever corner the list begins.
 abbrev pub AreaIsThatOfAnyTurn : Type 0
 AreaIsThatOfAnyTurn = (ps qs : List Point) → double_area (ps ++ qs) ≡ double_area (qs ++ ps)
 
--- The other way around, the area is negative.
 abbrev pub ReversalNegatesArea : Type 0
 ReversalNegatesArea = (ps : List Point) → double_area (reverse ps) ≡ neg_ℤ (double_area ps)
 
--- A diagonal from u to v splits a polygon into two, each with both corners.
 abbrev pub DiagonalSplitsArea : Type 0
 DiagonalSplitsArea = (u v : Point) (ps qs : List Point) → double_area (u ∷ ps ++ v ∷ qs) ≡ double_area (u ∷ ps ++ v ∷ []) +ℤ double_area (v ∷ qs ++ u ∷ [])
 
--- The diagonal from q beyond the corner p cuts off the triangle of q, p and the corner before p.
+-- Cutting off p subtracts its triangle.
 abbrev pub EarSplitsArea : Type 0
 EarSplitsArea = (o p q : Point) (ps : List Point) → double_area (o ∷ p ∷ q ∷ ps) ≡ double_area (o ∷ p ∷ q ∷ []) +ℤ double_area (o ∷ q ∷ ps)
 
--- A bridge from u to v and back joins a polygon with another one, such as a hole.
 abbrev pub BridgeAddsAreas : Type 0
 BridgeAddsAreas = (u v : Point) (ps qs : List Point) → double_area (u ∷ ps ++ u ∷ v ∷ qs ++ v ∷ []) ≡ double_area (u ∷ ps) +ℤ double_area (v ∷ qs)

@@ -93,7 +93,6 @@ cyclic_turned old new greatest i agrees within all_cyclic was turns k has = by (
         (λ apart. ap is_some (rings_are_cyclic new (k ∷ rest) k ((turns.rest (cyclic (k ∷ rest)) apart).0 chain) (inl refl)).0.1)
         (IsMember-or_not (k ∷ rest) i)
 
--- Removing an entry, or none, keeps all chains cyclic.
 module _ {A Gen T : Type 0} {view : A → ArenaView Gen T} {entry : A → ℕ → Option (Gen × T)} (state : (a : A) → ArenaState (view a) (entry a)) (interlinks : A → LinkMap) {P I W : Type 0} (pointers : PointerKind P I Gen W) (old new : A) (p : P) where
   pub cyclic_of : (o : Option T) → TakesEntry state interlinks pointers.following old new (pointers.key p) o → IsWellLinked (interlinks old) → AllCyclic (interlinks old) → AllCyclic (interlinks new)
   cyclic_of None r agrees all_cyclic = subst (λ (a : A). AllCyclic (interlinks a)) (sym (r.same refl)) all_cyclic

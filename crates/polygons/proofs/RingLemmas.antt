@@ -1,4 +1,4 @@
--- The effect on rings of exchanges, insertions and removals.
+-- Exchanges, insertions and removals in rings.
 use Rattle.std.proofs.Common.{◌≡◌, ◌≢◌, ℕ, inl, inr, ⊎_elim, List, [], ◌∷◌, ◌++◌, reverse, Option, None, Some, refl, sym, ap, ◌∙◌, subst, arith}
 use Rattle.std.specs.Prelude.{◌↔◌, ◌⊎◌, All, is_some, true, OnSome, IfNone, IfSome}
 use Rattle.std.specs.Option.{option_map, option_and_then}
@@ -72,7 +72,6 @@ module _ {Gen T : Type 0} (entry mid after : ℕ → Option (Gen × T)) (c d : �
   }
 
 module _ {A Gen T : Type 0} {view : A → ArenaView Gen T} {entry : A → ℕ → Option (Gen × T)} (state : (a : A) → ArenaState (view a) (entry a)) (interlinks : A → LinkMap) where
-  -- The next corner is the next in the ring.
   module _ (a : A) (p : ℕ × Gen) (t : T) (others : List (Item Gen T)) (is : IsRing state interlinks a ((p, t) ∷ others)) where
     pub in_a_ring : IsValid (entry a) p
     in_a_ring = record { value = t; stored = is.are_stored.0 }
@@ -109,7 +108,6 @@ module _ {A Gen T : Type 0} {view : A → ArenaView Gen T} {entry : A → ℕ �
     },
   )
 
-  -- An exchange, by rings.
   module _ (old new : A) (p q : ℕ × Gen) (exchanges : Exchanges (interlinks old) (interlinks new) p.0 q.0) (same : entry new ≡ entry old) where
     cuts_in_two : IsCutInTwo state interlinks old new p q
     cuts_in_two s t x y is =
@@ -229,7 +227,6 @@ module _ {A Gen T : Type 0} {view : A → ArenaView Gen T} {entry : A → ℕ �
       let listed : IsRing state interlinks a (e ∷ items.0) = record { chain = subst (λ (l : List ℕ). IsChain (interlinks a) (cyclic (e.0.0 ∷ l))) (sym items.1) ring.1; are_stored = (at, items.2) } in
       record { others = items.0; ring = listed; only = λ xs is. rings_agree a e xs items.0 is listed }
 
-  -- A reversal of the chain of `p` turns its ring over.
   module _ (old new : A) (p : ℕ × Gen) (turned : Reverses (interlinks old) (interlinks new) p.0) (same : entry new ≡ entry old) where
     turns_over : IsTurnedOver state interlinks old new p
     turns_over t others is = stays state interlinks cyclic old new same ((p, t) ∷ reverse others) (is.are_stored.0, are_stored-reversed (entry old) others [] is.are_stored.1 tt)
@@ -255,7 +252,6 @@ module _ {A Gen T : Type 0} {view : A → ArenaView Gen T} {entry : A → ℕ �
   replaces_point key old new p t None is same keeps written = (is, same)
   replaces_point key old new p t (Some former) is same keeps written = (is.0, has_new_value state interlinks cyclic (λ l. refl) old new (key p).0 t is.1 (key p).1 (keeps written))
 
-  -- The same exchange twice restores each ring.
   module _ (old mid new : A) (p q : ℕ × Gen) (all : AllInRings state interlinks old) (one : AreExchanged state interlinks old mid p q) (two : AreExchanged state interlinks mid new p q) where
     restored_from : (s : T) (others : List (Item Gen T)) → IsRing state interlinks old ((p, s) ∷ others) → IsRing state interlinks new ((p, s) ∷ others)
     restored_from s others is = ⊎_elim with_q without_q (IsMember-or_not (indexes others) q.0)

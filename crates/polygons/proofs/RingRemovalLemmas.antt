@@ -18,12 +18,11 @@ removed_last following s [] e = refl
 removed_last following s (x ∷ xs) e = removed_last following (view_after_removal following s x.0.0) xs e
 
 module _ {A Gen T : Type 0} {view : A → ArenaView Gen T} {entry : A → ℕ → Option (Gen × T)} (state : (a : A) → ArenaState (view a) (entry a)) (interlinks : A → LinkMap) where
-  -- The items are what is left of a ring, from `at` on. If none is left, `at` is not valid.
+  -- What is left of a ring, from `at` on; if nothing, `at` is not valid.
   abbrev pub IsLeft : A → ℕ × Gen → List (Item Gen T) → Type 0
   IsLeft a at [] = IsValid (entry a) at → ⊥
   IsLeft a at (e ∷ es) = (e.0 ≡ at) × IsRing state interlinks a (e ∷ es)
 
-  -- The first items of the ring of `p` are removed, and the others are left.
   pub record IsPartlyRemoved (following : Gen → Gen) (old now : A) (p at : ℕ × Gen) : Type 0 where
     pub removed : List (Item Gen T)
     pub rest : List (Item Gen T)
@@ -55,7 +54,6 @@ module _ {A Gen T : Type 0} {view : A → ArenaView Gen T} {entry : A → ℕ �
   first_among a p (e ∷ es) is = inl (let same : e.0 ≡ p = let first = is.first in cc in ap (λ (k : ℕ × Gen). k.0) same)
 
   module _ {P I W : Type 0} (pointers : PointerKind P I Gen W) (old now new : A) (p : ℕ × Gen) (at : P) (part : IsPartlyRemoved pointers.following old now p (pointers.key at)) where
-    -- The next corner of the ring, once `at` is removed as the item `e`.
     module _ (t : T) (es : List (Item Gen T)) (rest_is : part.rest ≡ (pointers.key at, t) ∷ es) (ring : IsRing state interlinks now ((pointers.key at, t) ∷ es)) (gone : IsItemRemoved state interlinks cyclic now new pointers (pointers.key at, t)) where
       ring_is : IsRingOfCorner state interlinks old p (part.removed ++ (pointers.key at, t) ∷ es)
       ring_is = subst (λ (l : List (Item Gen T)). IsRingOfCorner state interlinks old p (part.removed ++ l)) rest_is part.ring

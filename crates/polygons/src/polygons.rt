@@ -1,4 +1,4 @@
-//! Polygons, whose corners are all stored in one arena.
+//! Polygons in one arena.
 
 ghost use Rattle.std.specs.Prelude.{◌≡◌, ◌↔◌, ◌+◌, ◌<◌, ◌≤◌, [], IsTrue, IsSome, IfSome, IfOk, OnSome, Err, None, Some};
 ghost use Rattle.std.specs.Borrow.{LendsSo, sem};
@@ -19,13 +19,11 @@ use chain_traits::walks::{advancer_passes_the_walk, walk};
 use std::alloc::{AllocError, Global};
 use std::marker::{Model, PhantomData};
 
-/// Polygons, each a ring of corners in one arena. Each corner has a point.
+/// Polygons, each a ring of corners with points, in one arena.
 ///
-/// Inserting a corner returns its pointer, which identifies the corner until it is removed. A
-/// pointer of a removed corner is not valid, until the generation counter of the arena wraps.
-///
-/// Contracts see the arena, and call a polygon a ring (`IsRing`). A ring is the list of the
-/// corners, starting at any of them, each with its pointer's index and generation.
+/// The pointer of a removed corner is not valid until the generation counter wraps. Calls return
+/// `None` if a corner is not valid. On `None` or an error, nothing changes. Contracts call a
+/// polygon a ring (`IsRing`).
 #[derive(Drop)]
 pub struct Polygons<P: PtrKey, T: Drop, A: ChainArenaTrait<P, T> + Drop> {
     corners: A,
@@ -45,7 +43,7 @@ impl<P: PtrKey, T: Drop, A: ChainArenaTrait<P, T> + Drop> Model for Polygons<P, 
 impl<P: PtrKey, T: Drop, A: ChainArenaTrait<P, T> + Drop> Polygons<P, T, A> {
     ghost use Rattle.polygons.specs.contracts.polygons.Polygons.{the_row};
 
-    /// Creates an empty collection of polygons. It does not allocate.
+    /// Creates an empty collection, without allocating.
     pub fn new(alloc: Global) -> Self
         ensures new { IsNew P.Gen.first (A.view result) }
         ensures capacity { (A.view result).capacity ≡ 0 }
@@ -56,28 +54,28 @@ impl<P: PtrKey, T: Drop, A: ChainArenaTrait<P, T> + Drop> Polygons<P, T, A> {
         }
     }
 
-    /// Returns the number of corners of all polygons.
+    /// Returns the number of all corners.
     pub fn len(&self) -> usize
         ensures { CountsEntries (A.view self.now) result }
     {
         self.corners.len()
     }
 
-    /// Returns `true` if there are no corners.
+    /// Returns whether there are no corners.
     pub fn is_empty(&self) -> bool
         ensures { IsTrue result ↔ ((A.view self.now).entries ≡ []) }
     {
         self.corners.is_empty()
     }
 
-    /// Returns the number of corners that can be held without growing.
+    /// Returns the capacity, in corners.
     pub fn capacity(&self) -> usize
         ensures { ReportsCapacity (A.view self.now) P.Inx.greatest result }
     {
         self.corners.capacity()
     }
 
-    /// Returns the maximum capacity, or `None` if there is no limit.
+    /// Returns the maximum capacity, or `None` without limit.
     pub fn max_capacity(&self) -> Option<usize>
         ensures { result ≡ (A.view self.now).maximum }
     {
@@ -86,14 +84,10 @@ impl<P: PtrKey, T: Drop, A: ChainArenaTrait<P, T> + Drop> Polygons<P, T, A> {
 
     /// Reserves capacity for at least `additional` more corners.
     ///
-    /// Does nothing if the capacity suffices.
-    ///
     /// # Errors
     ///
-    /// - `BeyondMaxCapacity`: growth would exceed the maximum.
-    /// - `AllocError`: growth would exceed the greatest index, or an allocation failed.
-    ///
-    /// On error, nothing changes.
+    /// - `BeyondMaxCapacity`: the maximum is exceeded.
+    /// - `AllocError`: an allocation failed, or the greatest index is exceeded.
     pub fn reserve(&mut self, additional: usize) -> Result<(), ReallocationError>
         ensures { ReservesMore A.state A.interlinks P.Inx.greatest additional self.old result
             self.new }
@@ -101,25 +95,21 @@ impl<P: PtrKey, T: Drop, A: ChainArenaTrait<P, T> + Drop> Polygons<P, T, A> {
         reserve(&mut self.corners, additional)
     }
 
-    /// States that each corner is in exactly one polygon, which can be listed from that corner on.
-    ///
-    /// Has no effect.
+    /// States that each corner is in exactly one polygon, which can be listed from it on.
     pub fn all_in_polygons(&self)
         ensures { AllInRings A.state A.interlinks self.now }
     {
         self.corners.invariants();
     }
 
-    /// Returns a reference to the point of a corner, or `None` if `corner` is not valid.
+    /// Returns the point of a corner.
     pub fn get(&self, corner: P) -> Option<&T>
         ensures { ReadsItem (A.entry self.now) (P.key corner) result }
     {
         self.corners.get(corner)
     }
 
-    /// Returns a mutable reference to the point of a corner, or `None` if `corner` is not valid.
-    ///
-    /// Writing through the reference keeps all pointers and the order of each polygon.
+    /// Returns a mutable reference to the point of a corner.
     pub fn get_mut(&mut self, corner: P) -> Option<&mut T>
         ensures* writes_back { sem 𝓛 (LendsSo
             (the_row P.row T.row A.row P.Inx.row P.Gen.row P.Inx.Word.row
@@ -141,19 +131,14 @@ impl<P: PtrKey, T: Drop, A: ChainArenaTrait<P, T> + Drop> Polygons<P, T, A> {
         }
     }
 
-    /// Moves a corner to another point and returns the former one.
-    ///
-    /// All pointers and the order of each polygon stay. Returns `None` and changes nothing if
-    /// `corner` is not valid; `point` is dropped then.
+    /// Moves a corner and returns its former point.
     pub fn replace(&mut self, corner: P, point: T) -> Option<T>
         ensures { ReplacesPoint A.state A.interlinks self.old (P.key corner) point result self.new }
     {
         self.corners.replace(corner, point)
     }
 
-    /// Returns the pointer of the next corner in the polygon, or `None` if `corner` is not valid.
-    ///
-    /// The only corner of a polygon is its own next corner.
+    /// Returns the next corner, itself if it is the only one.
     pub fn next(&self, corner: P) -> Option<P>
         ensures { ReadsNextInRing A.state A.interlinks P.key self.now corner result }
     {
@@ -163,10 +148,7 @@ impl<P: PtrKey, T: Drop, A: ChainArenaTrait<P, T> + Drop> Polygons<P, T, A> {
         }
     }
 
-    /// Returns the pointer of the previous corner in the polygon, or `None` if `corner` is not
-    /// valid.
-    ///
-    /// The only corner of a polygon is its own previous corner.
+    /// Returns the previous corner, itself if it is the only one.
     pub fn prev(&self, corner: P) -> Option<P>
         ensures { ReadsPrevInRing A.state A.interlinks P.key self.now corner result }
     {
@@ -176,8 +158,7 @@ impl<P: PtrKey, T: Drop, A: ChainArenaTrait<P, T> + Drop> Polygons<P, T, A> {
         }
     }
 
-    /// Returns the pointers of the corners of a polygon, from `corner` on in `next` order, or
-    /// `None` if `corner` is not valid.
+    /// Returns the corners of a polygon in `next` order, from `corner` on.
     ///
     /// # Errors
     ///
@@ -191,9 +172,7 @@ impl<P: PtrKey, T: Drop, A: ChainArenaTrait<P, T> + Drop> Polygons<P, T, A> {
         walk(&self.corners, alloc, corner)
     }
 
-    /// Returns whether two corners are in the same polygon: `false` if one is not valid.
-    ///
-    /// Takes at most as many steps as the polygon of `u` has corners.
+    /// Returns whether both corners are valid and in one polygon. Walks at most that of `u`.
     pub fn same_polygon(&self, u: P, v: P) -> bool
         ensures { IsTrue result ↔ AreInOneRing A.state A.interlinks self.now (P.key u) (P.key v) }
     {
@@ -201,14 +180,12 @@ impl<P: PtrKey, T: Drop, A: ChainArenaTrait<P, T> + Drop> Polygons<P, T, A> {
         passes(&self.corners, u, v)
     }
 
-    /// Creates a polygon of one corner and returns the corner's pointer.
+    /// Creates a polygon of one corner.
     ///
     /// # Errors
     ///
-    /// - `BeyondMaxCapacity`: growth would exceed the maximum.
-    /// - `AllocError`: growth would exceed the greatest index, or an allocation failed.
-    ///
-    /// On error, nothing changes and the point is dropped.
+    /// - `BeyondMaxCapacity`: the maximum is reached.
+    /// - `AllocError`: an allocation failed, or the greatest index is reached.
     pub fn start(&mut self, point: T) -> Result<P, ReallocationError>
         ensures { StartsList A.state A.interlinks cyclic P.key P.Inx.greatest
             self.old point result self.new }
@@ -217,15 +194,13 @@ impl<P: PtrKey, T: Drop, A: ChainArenaTrait<P, T> + Drop> Polygons<P, T, A> {
         self.corners.insert(LinkInsertKind::SingleLinkCyclic, point)
     }
 
-    /// Inserts a corner directly after `corner` in its polygon and returns the new pointer.
+    /// Inserts a corner directly after `corner`.
     ///
     /// # Errors
     ///
     /// - `FailedLinkRequirement`: `corner` is not valid.
-    /// - `BeyondMaxCapacity`: growth would exceed the maximum.
-    /// - `AllocError`: growth would exceed the greatest index, or an allocation failed.
-    ///
-    /// On error, nothing changes and the point is dropped.
+    /// - `BeyondMaxCapacity`: the maximum is reached.
+    /// - `AllocError`: an allocation failed, or the greatest index is reached.
     pub fn insert_after(&mut self, corner: P, point: T) -> Result<P, ChainInsertionError>
         ensures { InsertsItemAfter A.state A.interlinks cyclic P.key P.Inx.greatest
             self.old (P.key corner) point result self.new }
@@ -235,15 +210,13 @@ impl<P: PtrKey, T: Drop, A: ChainArenaTrait<P, T> + Drop> Polygons<P, T, A> {
             .insert_reallocating(LinkInsertKind::NextTo(corner), point)
     }
 
-    /// Inserts a corner directly before `corner` in its polygon and returns the new pointer.
+    /// Inserts a corner directly before `corner`.
     ///
     /// # Errors
     ///
     /// - `FailedLinkRequirement`: `corner` is not valid.
-    /// - `BeyondMaxCapacity`: growth would exceed the maximum.
-    /// - `AllocError`: growth would exceed the greatest index, or an allocation failed.
-    ///
-    /// On error, nothing changes and the point is dropped.
+    /// - `BeyondMaxCapacity`: the maximum is reached.
+    /// - `AllocError`: an allocation failed, or the greatest index is reached.
     pub fn insert_before(&mut self, corner: P, point: T) -> Result<P, ChainInsertionError>
         ensures { InsertsItemBefore A.state A.interlinks cyclic P.key P.Inx.greatest
             self.old (P.key corner) point result self.new }
@@ -253,10 +226,7 @@ impl<P: PtrKey, T: Drop, A: ChainArenaTrait<P, T> + Drop> Polygons<P, T, A> {
             .insert_reallocating(LinkInsertKind::PrevTo(corner), point)
     }
 
-    /// Removes a corner from its polygon and returns its point.
-    ///
-    /// The other corners keep their order, and the capacity stays the same. Returns `None` and
-    /// changes nothing if `corner` is not valid.
+    /// Removes a corner and returns its point.
     pub fn remove(&mut self, corner: P) -> Option<T>
         ensures { RemovesItem A.state A.interlinks cyclic ⟦<P as AnyPointer>⟧.pointers self.old
             corner result self.new }
@@ -265,10 +235,7 @@ impl<P: PtrKey, T: Drop, A: ChainArenaTrait<P, T> + Drop> Polygons<P, T, A> {
         self.corners.remove(corner).allow()
     }
 
-    /// Removes all corners of a polygon, drops their points, and returns how many they were.
-    ///
-    /// All other polygons and the capacity stay the same. Returns `None` and changes nothing if
-    /// `corner` is not valid.
+    /// Removes a polygon and returns how many corners it had.
     pub fn remove_polygon(&mut self, corner: P) -> Option<usize>
         ensures { RemovesRing A.state A.interlinks P.Gen.following self.old (P.key corner) result
             self.new }
@@ -279,7 +246,7 @@ impl<P: PtrKey, T: Drop, A: ChainArenaTrait<P, T> + Drop> Polygons<P, T, A> {
             return None;
         }
         let mut at = corner;
-        // The last corner is its own next one, and not valid once it is removed.
+        // The last corner is its own next one, and not valid once removed.
         while let Some(next) = self.next(at) {
             self.remove(at);
             at = next;
@@ -287,9 +254,7 @@ impl<P: PtrKey, T: Drop, A: ChainArenaTrait<P, T> + Drop> Polygons<P, T, A> {
         Some(corners - self.len())
     }
 
-    /// Turns a polygon over: its corners then come in the opposite order.
-    ///
-    /// Returns `None` and changes nothing if `corner` is not valid.
+    /// Reverses the order of a polygon's corners.
     pub fn reverse(&mut self, corner: P) -> Option<()>
         ensures { ReversesRing A.state A.interlinks self.old (P.key corner) result self.new }
     {
@@ -297,11 +262,10 @@ impl<P: PtrKey, T: Drop, A: ChainArenaTrait<P, T> + Drop> Polygons<P, T, A> {
         self.corners.reverse_chain(corner)
     }
 
-    /// Exchanges the corners after `u` and `v`.
+    /// Exchanges the corners after `u` and `v`: cuts their polygon in two, or merges their two
+    /// polygons.
     ///
-    /// If `u` and `v` are in one polygon, cuts it in two; if they are in different polygons, merges
-    /// these. If they are the same corner, changes nothing. Returns `None` and changes nothing if
-    /// `u` or `v` is not valid. A second exchange restores the polygons
+    /// Nothing changes if both are the same. A second exchange restores the polygons
     /// (`exchange_twice_restores`).
     pub fn exchange(&mut self, u: P, v: P) -> Option<()>
         ensures { ExchangesSuccessors A.state A.interlinks self.old (P.key u) (P.key v) result
@@ -311,7 +275,6 @@ impl<P: PtrKey, T: Drop, A: ChainArenaTrait<P, T> + Drop> Polygons<P, T, A> {
         self.corners.exchange_next(u, v)
     }
 
-    // Splits as `split` does, within the capacity. `both` holds the points of `u` and `v`.
     fn split_within_capacity(&mut self, u: P, v: P, both: (T, T)) -> (P, P)
         requires capacity { count (A.view self.old) + 2 ≤ (A.view self.old).capacity }
         requires first { A.entry self.old (P.key u).0 ≡ Some ((P.key u).1, both.0) }
@@ -328,23 +291,16 @@ impl<P: PtrKey, T: Drop, A: ChainArenaTrait<P, T> + Drop> Polygons<P, T, A> {
 }
 
 impl<P: PtrKey, T: Copy + Drop, A: ChainArenaTrait<P, T> + Drop> Polygons<P, T, A> {
-    /// Splits a polygon along the diagonal from `u` to `v`.
+    /// Splits a polygon along the diagonal from `u` to `v`, and returns their copies in the other
+    /// part.
     ///
-    /// Returns the pointers of new copies of `u` and `v`, in this order. `u` and `v` stay in one
-    /// part, and the copies are in the other.
-    ///
-    /// If `u` and `v` are in different polygons, these become one. The diagonal is a bridge then,
-    /// with `u` and `v` on one side and the copies on the other.
-    ///
-    /// Returns `Ok(None)` and changes nothing if `u` or `v` is not valid, or if both are the same
-    /// corner.
+    /// Two polygons become one, by a bridge with the copies on its other side. Returns `Ok(None)`
+    /// also if both are the same corner.
     ///
     /// # Errors
     ///
-    /// - `BeyondMaxCapacity`: growth would exceed the maximum.
-    /// - `AllocError`: growth would exceed the greatest index, or an allocation failed.
-    ///
-    /// On error, nothing changes.
+    /// - `BeyondMaxCapacity`: the maximum is exceeded.
+    /// - `AllocError`: an allocation failed, or the greatest index is exceeded.
     pub fn split(&mut self, u: P, v: P) -> Result<Option<(P, P)>, ReallocationError>
         ensures { SplitsRing A.state A.interlinks P.key P.Inx.greatest self.old
             (P.key u) (P.key v) result self.new }
@@ -358,7 +314,6 @@ impl<P: PtrKey, T: Copy + Drop, A: ChainArenaTrait<P, T> + Drop> Polygons<P, T, 
         }
     }
 
-    // Returns the points of two corners, or `None` if either is not valid or both are the same.
     fn points(&self, u: P, v: P) -> Option<(T, T)>
         ensures some { IsSome result ↔ AreTwoValid (A.entry self.now) (P.key u) (P.key v) }
         ensures points { IfSome result (λ r.
@@ -374,7 +329,6 @@ impl<P: PtrKey, T: Copy + Drop, A: ChainArenaTrait<P, T> + Drop> Polygons<P, T, 
     }
 }
 
-// Returns whether the walk from `u` passes `v`.
 fn passes<P: PtrKey, T: Drop, A: ChainArenaTrait<P, T>>(corners: &A, u: P, v: P) -> bool
     ensures { IsTrue result ↔ PassesCorner (A.entry corners.now) (A.interlinks corners.now)
         (P.key u) (P.key v) }
@@ -395,7 +349,6 @@ fn passes<P: PtrKey, T: Drop, A: ChainArenaTrait<P, T>>(corners: &A, u: P, v: P)
     false
 }
 
-// Inserts a corner directly before another, within the capacity.
 fn add_before<P: PtrKey, T: Drop, A: ChainArenaTrait<P, T>>(corners: &mut A, u: P, t: T) -> P
     requires valid { IsValid (A.entry corners.old) (P.key u) }
     requires capacity { HasFreeCapacity (A.view corners.old) }
@@ -408,7 +361,6 @@ fn add_before<P: PtrKey, T: Drop, A: ChainArenaTrait<P, T>>(corners: &mut A, u: 
     }
 }
 
-// Inserts a corner directly after another, within the capacity.
 fn add_after<P: PtrKey, T: Drop, A: ChainArenaTrait<P, T>>(corners: &mut A, v: P, t: T) -> P
     requires valid { IsValid (A.entry corners.old) (P.key v) }
     requires capacity { HasFreeCapacity (A.view corners.old) }
@@ -422,8 +374,6 @@ fn add_after<P: PtrKey, T: Drop, A: ChainArenaTrait<P, T>>(corners: &mut A, v: P
 }
 
 /// States that the same `exchange` twice restores each polygon.
-///
-/// This follows from the contract of `exchange`. The function has no effect.
 pub fn exchange_twice_restores<P: PtrKey, T: Drop, A: ChainArenaTrait<P, T>>()
     ensures { SecondExchangeRestores A.state A.interlinks }
 {}

@@ -6,12 +6,11 @@ use Rattle.linked_lists.specs.declared.entry.Entry.{Entry}
 use Rattle.run_queues.specs.RunQueues.{HasNoTask, IsTurnTaken}
 
 module _ {A Gen T : Type 0} {view : A → ArenaView Gen (Entry T)} {entry : A → ℕ → Option (Gen × Entry T)} (state : (a : A) → ArenaState (view a) (entry a)) (interlinks : A → LinkMap) {P : Type 0} (key : P → ℕ × Gen) where
-  -- The queues of priority numbers below `n` have no task.
+  -- The queues below `n` have no task.
   abbrev pub AreEmptyBelow : A → List P → ℕ → Type 0
   AreEmptyBelow arena queues n = (k : ℕ) (q : P) → k < n → slice_get queues k ≡ Some q → HasNoTask state interlinks arena (key q)
 
-  -- `p` is the first task of the queue of the least priority number that has a task, and has its
-  -- turn.
+  -- `p`, first of the least priority number, has its turn.
   pub record IsLeastTurn (old new : A) (queues : List P) (p : ℕ × Gen) : Type 0 where
     pub priority : ℕ
     pub queue : P
@@ -19,7 +18,7 @@ module _ {A Gen T : Type 0} {view : A → ArenaView Gen (Entry T)} {entry : A �
     pub below : AreEmptyBelow old queues priority
     pub turn : IsTurnTaken state interlinks old new (key queue) p
 
-  -- Such a turn is taken, if one of the queues has a task.
+  -- The first task by priority has its turn, if any.
   abbrev pub TakesLeastTurn : A → List P → Option P → A → Type 0
   TakesLeastTurn old queues None new = AreEmptyBelow old queues (length queues) × (new ≡ old)
   TakesLeastTurn old queues (Some p) new = IsLeastTurn old new queues (key p)

@@ -1,42 +1,39 @@
-//! Lines of input, each a command to the scheduler.
+//! Commands.
 
 use crate::refusal::Refusal;
 use std::str;
 
-/// A line of input.
 #[derive(Debug, Clone, Copy, PartialEq, Eq)]
 pub enum Line<'a> {
-    /// A line without words.
     Blank,
-    /// `spawn NAME PRIORITY`: a task begins.
+    /// `spawn NAME PRIORITY`
     Spawn(&'a str, u8),
-    /// `run N`: tasks take N turns.
+    /// `run N`
     Run(u32),
-    /// `block NAME EVENT`: a task waits for an event.
+    /// `block NAME EVENT`
     Block(&'a str, &'a str),
-    /// `wake EVENT`: all tasks that wait for the event go on.
+    /// `wake EVENT`: all that wait go on.
     Wake(&'a str),
-    /// `kill NAME`: a task ends.
+    /// `kill NAME`
     Kill(&'a str),
 }
 
-/// The length of the longest line that is not refused, in bytes.
+/// The maximum, in bytes.
 pub const MAX_LINE: usize = 200;
 
-/// The greatest priority number. Tasks of priority 0 take their turns first.
+/// Priority 0 comes first.
 pub const MAX_PRIORITY: u32 = 9;
 
-/// The greatest number of turns of one line.
 pub const MAX_TURNS: u32 = 1_000_000;
 
 /// Parses a line.
 ///
 /// # Errors
 ///
-/// - `BadText`: the line has more than 200 bytes, is not UTF-8, or has a control character.
-/// - `UnknownCommand`: its first word is not a command.
-/// - `MissingWord`, `ExtraWord`: it has too few words, or too many.
-/// - `BadNumber`: a number has other characters than digits, or is too large.
+/// - `BadText`: over 200 bytes, not UTF-8, or a control character.
+/// - `UnknownCommand`: the first word is no command.
+/// - `MissingWord`, `ExtraWord`: too few or too many words.
+/// - `BadNumber`: a number is not of digits, or too large.
 pub fn parse(line: &[u8]) -> Result<Line<'_>, Refusal> {
     if line.len() > MAX_LINE {
         return Err(Refusal::BadText);
@@ -47,7 +44,6 @@ pub fn parse(line: &[u8]) -> Result<Line<'_>, Refusal> {
     }
 }
 
-/// Parses a text without control characters.
 fn parse_text(text: &str) -> Result<Line<'_>, Refusal> {
     let mut words = text.split_whitespace();
     let Some(command) = words.next() else {
@@ -72,7 +68,6 @@ fn parse_text(text: &str) -> Result<Line<'_>, Refusal> {
     }
 }
 
-/// Returns the only word of a command.
 fn one_word<'a>(first: Option<&'a str>, second: Option<&'a str>) -> Result<&'a str, Refusal> {
     match (first, second) {
         (None, _) => Err(Refusal::MissingWord),
@@ -81,7 +76,6 @@ fn one_word<'a>(first: Option<&'a str>, second: Option<&'a str>) -> Result<&'a s
     }
 }
 
-/// Returns the two words of a command.
 fn two_words<'a>(
     first: Option<&'a str>,
     second: Option<&'a str>,
@@ -94,7 +88,6 @@ fn two_words<'a>(
     }
 }
 
-/// Parses a number of at most `greatest`.
 fn parse_number(word: &str, greatest: u32) -> Result<u32, Refusal> {
     if !word.bytes().all(|byte| byte.is_ascii_digit()) {
         return Err(Refusal::BadNumber);
@@ -105,7 +98,6 @@ fn parse_number(word: &str, greatest: u32) -> Result<u32, Refusal> {
     }
 }
 
-/// Parses a priority.
 fn parse_priority(word: &str) -> Result<u8, Refusal> {
     let number = parse_number(word, MAX_PRIORITY)?;
     u8::try_from(number).or(Err(Refusal::BadNumber))

@@ -1,4 +1,4 @@
-//! A program that schedules tasks, which take turns by priority, block and are woken.
+//! A program that schedules tasks by priority.
 #![tactic(auto)]
 
 mod line;

@@ -1,4 +1,4 @@
-//! A scheduler: tasks with names, in queues by priority and in wait lists by event.
+//! A scheduler of named tasks.
 
 use crate::refusal::Refusal;
 use crate::turns::next_of_first;
@@ -8,12 +8,9 @@ use run_queues::{Entry, RunQueues};
 use std::alloc::{AllocError, AllocFailed, Global};
 use std::collections::HashMap;
 
-/// The reason why a command has no effect.
 #[derive(Clone, Copy, Debug, PartialEq, Eq)]
 pub enum CommandError {
-    /// The command is refused, and nothing changes.
     Refused(Refusal),
-    /// An allocation failed.
     Memory,
 }
 
@@ -35,10 +32,8 @@ impl From<Refusal> for CommandError {
     }
 }
 
-/// The number of priorities. A task has a priority below it.
 const PRIORITIES: usize = 10;
 
-/// A task that was spawned.
 #[derive(Drop)]
 pub struct Task<P: PtrKey> {
     name: String,
@@ -49,27 +44,23 @@ pub struct Task<P: PtrKey> {
 }
 
 impl<P: PtrKey> Task<P> {
-    /// Returns the name of the task.
     pub fn name(&self) -> &str {
         &self.name
     }
 
-    /// Returns the number of turns that the task has had.
     pub fn turns(&self) -> u64 {
         self.turns
     }
 }
 
-/// The place of a task in the order of spawning.
+/// An index in the order of spawning.
 #[derive(Drop)]
 pub struct Place {
     index: usize,
 }
 
-/// A scheduler over any arena of links.
-///
-/// `ready` has a queue for each priority, and `waiting` one for each event. `tasks` has all tasks in
-/// the order of spawning, and `names` the index there of each one that was not killed.
+/// `ready` has a queue for each priority, `waiting` for each event. `names` has the index of each
+/// task that was not killed.
 #[derive(Drop)]
 pub struct Scheduler<P: PtrKey, A: ChainArenaTrait<P, Entry<Place>> + Drop> {
     queues: RunQueues<P, Place, A>,
@@ -81,11 +72,6 @@ pub struct Scheduler<P: PtrKey, A: ChainArenaTrait<P, Entry<Place>> + Drop> {
 }
 
 impl<P: PtrKey, A: ChainArenaTrait<P, Entry<Place>> + Drop> Scheduler<P, A> {
-    /// Creates a scheduler without tasks.
-    ///
-    /// # Errors
-    ///
-    /// - `AllocError`: an allocation failed.
     pub fn new(alloc: Global) -> Result<Self, AllocError> {
         let mut queues = RunQueues::new(alloc);
         let mut ready = Vec::new(alloc);
@@ -105,18 +91,11 @@ impl<P: PtrKey, A: ChainArenaTrait<P, Entry<Place>> + Drop> Scheduler<P, A> {
         })
     }
 
-    /// Returns all tasks, in the order of spawning.
     pub fn tasks(&self) -> &[Task<P>] {
         &self.tasks
     }
 
-    /// Begins a task, which comes last in the queue of its priority.
-    ///
-    /// # Errors
-    ///
-    /// - `NameInUse`: a task that was not killed has the name.
-    /// - `BadNumber`: there is no such priority.
-    /// - `Memory`: an allocation failed.
+    /// Begins a task, last in the queue of its priority.
     pub fn spawn(&mut self, name: &str, priority: u8) -> Result<(), CommandError> {
         if self.names.contains_key(name) {
             return Err(CommandError::Refused(Refusal::NameInUse));
@@ -143,8 +122,7 @@ impl<P: PtrKey, A: ChainArenaTrait<P, Entry<Place>> + Drop> Scheduler<P, A> {
         Ok(())
     }
 
-    /// Gives a turn to the first task of the first queue that is not empty, and returns the name of
-    /// the task. Returns `None` if there is none.
+    /// Gives the first task by priority a turn, and returns its name.
     pub fn turn(&mut self) -> Option<&str> {
         let pointer = next_of_first(&mut self.queues, &self.ready)?;
         let index = self.queues.get(pointer)?.index;
@@ -154,12 +132,6 @@ impl<P: PtrKey, A: ChainArenaTrait<P, Entry<Place>> + Drop> Scheduler<P, A> {
     }
 
     /// Moves a task to the wait list of an event.
-    ///
-    /// # Errors
-    ///
-    /// - `UnknownName`: there is no such task.
-    /// - `AlreadyBlocked`: the task waits for an event.
-    /// - `Memory`: an allocation failed.
     pub fn block(&mut self, name: &str, event: &str) -> Result<(), CommandError> {
         let Some(index) = self.names.get(name).copied() else {
             return Err(CommandError::Refused(Refusal::UnknownName));
@@ -175,7 +147,6 @@ impl<P: PtrKey, A: ChainArenaTrait<P, Entry<Place>> + Drop> Scheduler<P, A> {
         Ok(())
     }
 
-    /// Returns the wait list of an event, which is created if there is none.
     fn wait_list(&mut self, event: &str) -> Result<P, CommandError> {
         if let Some(list) = self.waiting.get(event).copied() {
             return Ok(list);
@@ -189,11 +160,7 @@ impl<P: PtrKey, A: ChainArenaTrait<P, Entry<Place>> + Drop> Scheduler<P, A> {
         Ok(list)
     }
 
-    /// Moves each task that waits for an event to the queue of its priority, in order.
-    ///
-    /// # Errors
-    ///
-    /// - `NobodyWaits`: no task waits for the event.
+    /// Moves the tasks that wait for an event to their queues, in order.
     pub fn wake(&mut self, event: &str) -> Result<(), Refusal> {
         let Some(list) = self.waiting.get(event).copied() else {
             return Err(Refusal::NobodyWaits);
@@ -209,8 +176,6 @@ impl<P: PtrKey, A: ChainArenaTrait<P, Entry<Place>> + Drop> Scheduler<P, A> {
         Ok(())
     }
 
-    /// Moves the first task of a wait list to the queue of its priority. Returns `None` if there is
-    /// none.
     fn wake_first(&mut self, list: P) -> Option<P> {
         let pointer = self.queues.first(list)?;
         let index = self.queues.get(pointer)?.index;
@@ -219,11 +184,6 @@ impl<P: PtrKey, A: ChainArenaTrait<P, Entry<Place>> + Drop> Scheduler<P, A> {
         self.queues.wake_one(list, task.queue)
     }
 
-    /// Ends a task.
-    ///
-    /// # Errors
-    ///
-    /// - `UnknownName`: there is no such task.
     pub fn kill(&mut self, name: &str) -> Result<(), Refusal> {
         let Some(index) = self.names.remove(name) else {
             return Err(Refusal::UnknownName);

@@ -1,4 +1,4 @@
-//! Runs, which read lines from a reader and write the turns to a writer.
+//! Runs.
 
 use crate::line::{Line, MAX_LINE, parse};
 use crate::refusal::{Refusal, reason};
@@ -10,14 +10,10 @@ use run_queues::Entry;
 use std::alloc::{AllocError, AllocFailed, Global};
 use std::io::{ErrorKind, Read, Write};
 
-/// The reason that a run stopped before the end of its input.
 #[derive(Clone, Copy, Debug, PartialEq, Eq)]
 pub enum RunError {
-    /// The reader failed.
     Read,
-    /// The writer failed.
     Write,
-    /// An allocation failed.
     Memory,
 }
 
@@ -33,7 +29,6 @@ impl<T: Drop> From<AllocFailed<T>> for RunError {
     }
 }
 
-/// A run: its scheduler, and how many lines and turns there have been.
 #[derive(Drop)]
 struct Session<P: PtrKey, A: ChainArenaTrait<P, Entry<Place>> + Drop> {
     scheduler: Scheduler<P, A>,
@@ -42,15 +37,9 @@ struct Session<P: PtrKey, A: ChainArenaTrait<P, Entry<Place>> + Drop> {
     alloc: Global,
 }
 
-/// The session of the program.
 type ToolSession = Session<ToolPtr, ChainArena<ToolPtr, Entry<Place>>>;
 
 impl<P: PtrKey, A: ChainArenaTrait<P, Entry<Place>> + Drop> Session<P, A> {
-    /// Begins a session without tasks.
-    ///
-    /// # Errors
-    ///
-    /// - `AllocError`: an allocation failed.
     fn new(alloc: Global) -> Result<Self, AllocError> {
         Ok(Session {
             scheduler: Scheduler::new(alloc)?,
@@ -60,12 +49,6 @@ impl<P: PtrKey, A: ChainArenaTrait<P, Entry<Place>> + Drop> Session<P, A> {
         })
     }
 
-    /// Executes a line and writes its output.
-    ///
-    /// # Errors
-    ///
-    /// - `Memory`: an allocation failed.
-    /// - `Write`: the writer failed.
     fn end_line<W: Write>(&mut self, line: &[u8], writer: &mut W) -> Result<(), RunError> {
         self.lines = self.lines.saturating_add(1);
         match parse(line) {
@@ -79,7 +62,6 @@ impl<P: PtrKey, A: ChainArenaTrait<P, Entry<Place>> + Drop> Session<P, A> {
         }
     }
 
-    /// Executes a command that writes nothing.
     fn execute(&mut self, line: Line<'_>) -> Result<(), CommandError> {
         match line {
             Line::Blank | Line::Run(_) => Ok(()),
@@ -90,13 +72,11 @@ impl<P: PtrKey, A: ChainArenaTrait<P, Entry<Place>> + Drop> Session<P, A> {
         }
     }
 
-    /// Writes why the line is refused.
     fn refuse<W: Write>(&self, refusal: Refusal, writer: &mut W) -> Result<(), RunError> {
         let text = format!(in self.alloc; "line {}: {}\n", self.lines, reason(refusal))?;
         writer.write_all(text.as_bytes()).or(Err(RunError::Write))
     }
 
-    /// Gives turns, and writes a line for each.
     fn run_turns<W: Write>(&mut self, turns: u32, writer: &mut W) -> Result<(), RunError> {
         for _ in 0..turns {
             self.ticks = self.ticks.saturating_add(1);
@@ -107,7 +87,6 @@ impl<P: PtrKey, A: ChainArenaTrait<P, Entry<Place>> + Drop> Session<P, A> {
         Ok(())
     }
 
-    /// Writes the turns of each task, in the order of spawning.
     fn report<W: Write>(&self, writer: &mut W) -> Result<(), RunError> {
         for task in self.scheduler.tasks() {
             let text = format!(in self.alloc; "{} {}\n", task.name(), task.turns())?;
@@ -116,8 +95,7 @@ impl<P: PtrKey, A: ChainArenaTrait<P, Entry<Place>> + Drop> Session<P, A> {
         Ok(())
     }
 
-    /// Executes the lines that a piece of the input completes, and keeps the beginning of the next
-    /// line, of which one byte more than the maximum is enough.
+    /// One byte too many is enough to refuse a line.
     fn feed<W: Write>(
         &mut self,
         piece: &[u8],
@@ -136,9 +114,7 @@ impl<P: PtrKey, A: ChainArenaTrait<P, Entry<Place>> + Drop> Session<P, A> {
     }
 }
 
-/// Runs the lines of a reader on a session and writes the output to a writer.
-///
-/// The writer is flushed before each read.
+/// Flushes before each read.
 fn run_on<P: PtrKey, A: ChainArenaTrait<P, Entry<Place>> + Drop, R: Read, W: Write>(
     session: &mut Session<P, A>,
     reader: &mut R,
@@ -147,7 +123,7 @@ fn run_on<P: PtrKey, A: ChainArenaTrait<P, Entry<Place>> + Drop, R: Read, W: Wri
     let alloc = session.alloc;
     let mut piece = vec![in alloc; 0u8; 65536]?;
     let mut line = Vec::new(alloc);
-    // Each loop is proved to end, so the reads are bounded.
+    // Bounded, since each loop is proved to end.
     for _ in 0..u64::MAX {
         if writer.flush().is_err() {
             return Err(RunError::Write);
@@ -169,15 +145,6 @@ fn run_on<P: PtrKey, A: ChainArenaTrait<P, Entry<Place>> + Drop, R: Read, W: Wri
     Err(RunError::Read)
 }
 
-/// Runs the lines of a reader on a new scheduler and writes the output to a writer.
-///
-/// # Errors
-///
-/// - `Memory`: an allocation failed.
-/// - `Write`: the writer failed.
-/// - `Read`: the reader failed.
-///
-/// Lines executed before the error keep their effect.
 pub fn run<R: Read, W: Write>(
     alloc: Global,
     reader: &mut R,

@@ -1,4 +1,4 @@
-//! Runs and their exit statuses.
+//! Exit statuses.
 
 use crate::session::{RunError, run};
 use std::alloc::Global;
@@ -6,8 +6,7 @@ use std::io;
 use std::io::{Read, Write};
 use std::process::{ExitCode, Termination};
 
-/// The exit status of a run. Only `schedule_input` makes one, and none is dropped, so `main`
-/// returns that of its run.
+/// Only `schedule_input` makes one, and none is dropped, so `main` returns it.
 pub struct Status {
     code: ExitCode,
 }
@@ -19,8 +18,7 @@ impl Termination for Status {
     }
 }
 
-/// Runs the lines of a reader, with output to a writer if there is memory for its buffer.
-/// Returns the exit status, 0 or 2, and writes a fault to `errors`.
+/// Returns 0, or 2 after a fault, written to `errors`.
 pub fn schedule_input<R: Read, W: Write + Drop, E: Write>(
     alloc: Global,
     reader: &mut R,
@@ -41,7 +39,6 @@ pub fn schedule_input<R: Read, W: Write + Drop, E: Write>(
     Status { code }
 }
 
-/// Returns the line that is written to standard error at a fault.
 fn reason(error: RunError) -> &'static str {
     match error {
         RunError::Read => "schedule: cannot read\n",

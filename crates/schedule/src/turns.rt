@@ -1,4 +1,4 @@
-//! Turns among several queues.
+//! Turns.
 
 ghost use Rattle.schedule.specs.LeastTurns.{TakesLeastTurn};
 
@@ -6,9 +6,7 @@ use arena_ptr::PtrKey;
 use chain_traits::ChainArenaTrait;
 use run_queues::{Entry, RunQueues};
 
-/// Gives its turn to the first task of the first of the queues that has one, and returns the task.
-///
-/// Returns `None` and changes nothing if each queue is empty.
+/// Gives a turn to the first task of the first queue that has one, and returns it.
 pub fn next_of_first<P: PtrKey, T: Drop, A: ChainArenaTrait<P, Entry<T>> + Drop>(
     queues: &mut RunQueues<P, T, A>,
     ready: &[P],

@@ -1,4 +1,4 @@
--- Lines of text that are parsed, in turn.
+-- Lines parsed in turn.
 use Rattle.std.proofs.Common.{◌≡◌, ℕ, zero, suc, ◌<◌, length, List, [], ◌∷◌, ◌++◌, take, Err, refl, sym, ap, subst, arith}
 use Rattle.std.specs.Prelude.{get_or}
 use Rattle.std.specs.List.{HoldsAt}

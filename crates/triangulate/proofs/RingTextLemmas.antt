@@ -1,4 +1,4 @@
--- Numbers and rings in lines of text.
+-- Numbers and rings in lines.
 use Rattle.std.proofs.Common.{◌≡◌, ◌⊎◌, inl, inr, ℕ, zero, suc, ℤ, pos, negsuc, neg_ℤ, ◌+◌, ◌-◌, ◌*◌, ◌^◌, take, drop, ◌<◌, ◌≤◌, length, IsTrue, IsFalse, List, [], ◌∷◌, ◌++◌, Result, Ok, Err, refl, sym, ap, ◌∙◌, subst, arith}
 use Rattle.std.specs.Prelude.{slice_index, get_or, unsigned_abs}
 use Rattle.std.proofs.lemmas.Bool.{false≢true}

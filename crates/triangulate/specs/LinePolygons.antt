@@ -1,4 +1,4 @@
--- Polygons in lines of text, one ring in each line.
+-- Polygons in lines.
 use Rattle.std.specs.Prelude.{◌≡◌, ℕ, ◌<◌, ◌⊎◌, List, [], ◌∷◌, length, take, Result, Ok, Err}
 use Rattle.std.specs.List.{HoldsAt}
 use Rattle.std.specs.declared.vec.Vec.{Vec}
@@ -13,31 +13,31 @@ use Rattle.triangulate.specs.declared.rings.Refusal.{Refusal}
 use Rattle.triangulate.specs.declared.rings.Refusal.TheVariants as refusal
 use Rattle.triangulate.specs.RingTexts.{AreRingTexts, ParsesRing}
 
--- The line at an index is the first one that is not parsed, for this error.
+-- Line `i` is the first that is not parsed.
 pub record IsFirstUnparsed (lines : List (List ℕ)) (i : ℕ) (error : LineError) : Type 0 where
   pub within : i < length lines
   pub rings : List (List Point)
   pub before : AreRingTexts (take i lines) rings
   pub line : HoldsAt (λ line. ParsesRing line (Err error)) lines i
 
--- The lines have the rings of a polygon that is refused, for this error.
+-- The polygon is refused, for this error.
 pub record IsPolygonRefused (lines : List (List ℕ)) (error : PolygonError) : Type 0 where
   pub outline : List Point
   pub holes : List (List Point)
   pub rings : AreRingTexts lines (outline ∷ holes)
   pub reason : IsReason outline holes error
 
--- Why lines are refused: one has no ring; or memory was refused; or their polygon is refused.
+-- A line is no ring, or memory or the polygon is refused.
 abbrev pub AreRefused : List (List ℕ) → Refusal → Type 0
 AreRefused lines (refusal.Line i error) = IsFirstUnparsed lines i error
 AreRefused lines (refusal.Polygon error) = (error ≡ polygon.AllocError) ⊎ IsPolygonRefused lines error
 
--- `rings`: the rings of the lines, or why there are none.
+-- `rings`: the rings of the lines, or why not.
 abbrev pub ParsesRings : List (List ℕ) → Result (Vec (Vec Point Global) Global) Refusal → Type 0
 ParsesRings lines (Ok rings) = AreRingTexts lines (rings_of rings.items)
 ParsesRings lines (Err why) = AreRefused lines why
 
--- Triangles of the polygon in these lines, of which the first is its outline.
+-- Triangles of the polygon of the lines.
 pub record IsTriangulated (lines : List (List ℕ)) (triangles : List Triangle) : Type 0 where
   pub outline : List Point
   pub holes : List (List Point)
@@ -45,7 +45,7 @@ pub record IsTriangulated (lines : List (List ℕ)) (triangles : List Triangle) 
   pub polygon : IsPolygonWithHoles outline holes
   pub triangulation : IsPolygonTriangulation outline holes triangles
 
--- `triangulate_lines`: the polygon in these lines is triangulated, or why not.
+-- `triangulate_lines`: the triangles, or why not.
 abbrev pub TriangulatesLines : List (List ℕ) → Result (Vec Triangle Global) Refusal → Type 0
 TriangulatesLines lines (Ok triangles) = IsTriangulated lines triangles.items
 TriangulatesLines lines (Err why) = AreRefused lines why

@@ -1,4 +1,4 @@
--- Lines of text that have the points of rings.
+-- Lines with points of rings.
 use Rattle.std.specs.Prelude.{◌≡◌, ℕ, ℤ, pos, neg_ℤ, unsigned_abs, ◌-◌, ◌+◌, ◌*◌, ◌^◌, ◌<◌, ◌≤◌, ◌==◌, ◌||◌, ◌⊎◌, Bool, IsTrue, IsFalse, List, [], ◌∷◌, map, length, take, drop, slice_index, Result, Ok, Err}
 use Rattle.std.specs.Str.Parse.{digits_value, AllDigits}
 use Rattle.std.specs.declared.vec.Vec.{Vec}
@@ -7,22 +7,19 @@ use Rattle.triangulation.specs.declared.points.Point.{Point}
 use Rattle.triangulate.specs.declared.numbers.LineError.{LineError}
 use Rattle.triangulate.specs.declared.numbers.LineError.TheVariants as why
 
--- The bytes of each line.
 abbrev pub texts_of : List (Vec ℕ Global) → List (List ℕ)
 texts_of lines = map (λ line. line.items) lines
 
--- Spaces, tabs and carriage returns separate numbers.
 abbrev pub is_space : ℕ → Bool
 is_space byte = (byte == 32) || (byte == 9) || (byte == 13)
 
--- The bytes from one index up to another are spaces, or none is.
 abbrev pub AreSpaces : List ℕ → ℕ → ℕ → Type 0
 AreSpaces line from to = (k : ℕ) → from ≤ k → k < to → IsTrue (is_space (slice_index line k))
 
 abbrev pub AreNoSpaces : List ℕ → ℕ → ℕ → Type 0
 AreNoSpaces line from to = (k : ℕ) → from ≤ k → k < to → IsFalse (is_space (slice_index line k))
 
--- From one index on, the line has spaces and then a whole word, up to the other index.
+-- Spaces and then a whole word, up to `to`.
 pub record IsWordAt (line : List ℕ) (from to : ℕ) (word : List ℕ) : Type 0 where
   pub start : ℕ
   pub order : from ≤ start
@@ -33,7 +30,7 @@ pub record IsWordAt (line : List ℕ) (from to : ℕ) (word : List ℕ) : Type 0
   pub after : to < length line → IsTrue (is_space (slice_index line to))
   pub text : word ≡ take (to - start) (drop start line)
 
--- At most ten decimal digits, and their number.
+-- At most ten digits, and their number.
 pub record IsDecimal (word : List ℕ) (value : ℤ) : Type 0 where
   pub some : 0 < length word
   pub few : length word ≤ 10
@@ -44,11 +41,10 @@ pub record IsDecimal (word : List ℕ) (value : ℤ) : Type 0 where
 abbrev pub IsNumeral : List ℕ → ℤ → Type 0
 IsNumeral word value = IsDecimal word value ⊎ ((digits : List ℕ) × (size : ℤ) × (word ≡ 45 ∷ digits) × IsDecimal digits size × (value ≡ neg_ℤ size))
 
--- A coordinate is at most 2 ^ 30, with or without a minus sign.
 abbrev pub IsInBounds : ℤ → Type 0
 IsInBounds value = unsigned_abs value ≤ 2 ^ 30
 
--- The outcome of parsing a word: the coordinate that it denotes, or an error if it denotes none.
+-- What the word denotes, or why nothing.
 abbrev pub ParsesWord : (List ℕ → ℤ → Type 0) → List ℕ → Result ℤ LineError → Type 0
 ParsesWord Denotes word (Ok value) = Denotes word value × IsInBounds value
 ParsesWord Denotes word (Err why.NotANumber) = (value : ℤ) → Denotes word value → ⊥
@@ -56,41 +52,40 @@ ParsesWord Denotes word (Err why.TooLarge) = (value : ℤ) × Denotes word value
 ParsesWord Denotes word (Err why.OddNumber) = ⊥
 ParsesWord Denotes word (Err why.Memory) = ⊥
 
--- The next word denotes a coordinate, and ends at the other index.
+-- The next word is a coordinate and ends at `to`.
 pub record IsNumberAt (line : List ℕ) (from to : ℕ) (value : ℤ) : Type 0 where
   pub word : List ℕ
   pub place : IsWordAt line from to word
   pub numeral : IsNumeral word value
   pub bounded : IsInBounds value
 
--- The next word denotes no coordinate, or there is none.
+-- The next word is no coordinate, or missing.
 abbrev pub HasNoNumberAt : List ℕ → ℕ → LineError → Type 0
 HasNoNumberAt line from error =
     ((error ≡ why.OddNumber) × AreSpaces line from (length line))
     ⊎ ((to : ℕ) × (word : List ℕ) × IsWordAt line from to word × ParsesWord IsNumeral word (Err error))
 
--- `number_at`: the next number, with the index at which its word ends, or an error.
+-- `number_at`: the next number, or why not.
 abbrev pub ParsesNumber : List ℕ → ℕ → Result (ℤ × ℕ) LineError → Type 0
 ParsesNumber line from (Ok found) = IsNumberAt line from found.1 found.0
 ParsesNumber line from (Err error) = HasNoNumberAt line from error
 
--- From one index on, the line has these numbers, the last of which ends at the other index.
+-- The line has these numbers, up to `to`.
 abbrev pub AreNumbersAt : List ℕ → ℕ → List ℤ → ℕ → Type 0
 AreNumbersAt line from [] to = from ≡ to
 AreNumbersAt line from (value ∷ values) to = (middle : ℕ) × IsNumberAt line from middle value × AreNumbersAt line middle values to
 
--- The coordinates of points, `x` before `y`.
 abbrev pub coordinates_of : List Point → List ℤ
 coordinates_of [] = []
 coordinates_of (p ∷ points) = p.x ∷ p.y ∷ coordinates_of points
 
--- A line has the coordinates of these points and nothing else.
+-- The coordinates of these points and nothing else.
 pub record IsRingText (line : List ℕ) (points : List Point) : Type 0 where
   pub end : ℕ
   pub numbers : AreNumbersAt line 0 (coordinates_of points) end
   pub rest : AreSpaces line end (length line)
 
--- After some numbers, the next word of a line denotes none; or there is none, and their number is odd.
+-- After some numbers, the next word denotes none, or none is left and their number is odd.
 pub record IsLineFault (line : List ℕ) (error : LineError) : Type 0 where
   pub numbers : List ℤ
   pub end : ℕ
@@ -98,12 +93,11 @@ pub record IsLineFault (line : List ℕ) (error : LineError) : Type 0 where
   pub fault : HasNoNumberAt line end error
   pub odd : error ≡ why.OddNumber → (half : ℕ) × (length numbers ≡ 2 * half + 1)
 
--- `ring`: the points of a line, or why it has none; or memory was refused.
+-- `ring`: the points of a line, or why not.
 abbrev pub ParsesRing : List ℕ → Result (Vec Point Global) LineError → Type 0
 ParsesRing line (Ok points) = IsRingText line points.items
 ParsesRing line (Err error) = (error ≡ why.Memory) ⊎ IsLineFault line error
 
--- Each line has the points of a ring.
 abbrev pub AreRingTexts : List (List ℕ) → List (List Point) → Type 0
 AreRingTexts [] [] = Unit {0}
 AreRingTexts [] (ring ∷ rings) = ⊥

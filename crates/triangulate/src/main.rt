@@ -1,4 +1,4 @@
-//! A program that triangulates polygons, which it reads from standard input.
+//! A program that triangulates polygons from standard input.
 #![tactic(auto)]
 
 mod lines;

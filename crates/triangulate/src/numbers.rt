@@ -1,29 +1,22 @@
-//! Numbers in lines of text.
+//! Numbers.
 
 ghost use Rattle.std.specs.Prelude.{◌≡◌, ◌≤◌, ◌<◌, length, slice_index, IsTrue, IsFalse};
 ghost use Rattle.triangulate.specs.RingTexts.{is_space, IsDecimal, IsNumeral, ParsesWord, ParsesNumber, AreSpaces, AreNoSpaces};
 
-/// The reason why a line is not a ring.
 #[derive(Clone, Copy, Debug, PartialEq, Eq)]
 pub enum LineError {
-    /// A word is not a number of at most ten digits.
     NotANumber,
-    /// The line ends after the first coordinate of a point.
     OddNumber,
-    /// A coordinate is beyond 2 ^ 30.
     TooLarge,
-    /// An allocation failed.
     Memory,
 }
 
-/// Returns whether a byte separates numbers.
 fn is_space(byte: u8) -> bool
     ensures { result ≡ is_space byte }
 {
     byte == b' ' || byte == b'\t' || byte == b'\r'
 }
 
-/// Returns the index of the first byte from `from` on that is no space, or the length.
 pub fn end_of_spaces(line: &[u8], from: usize) -> usize
     requires { from ≤ length line.now }
     ensures order { from ≤ result }
@@ -38,7 +31,6 @@ pub fn end_of_spaces(line: &[u8], from: usize) -> usize
     at
 }
 
-/// Returns the index of the first space from `from` on, or the length.
 fn end_of_word(line: &[u8], from: usize) -> usize
     requires { from ≤ length line.now }
     ensures order { from ≤ result }
@@ -54,13 +46,13 @@ fn end_of_word(line: &[u8], from: usize) -> usize
     line.len()
 }
 
-/// Parses the next number from `from` on, and returns it with the index at which its word ends.
+/// Returns the next number and the end of its word.
 ///
 /// # Errors
 ///
-/// - `OddNumber`: there is no word from `from` on.
-/// - `NotANumber`: the word is not a number of at most ten digits.
-/// - `TooLarge`: the number is beyond 2 ^ 30.
+/// - `OddNumber`: no word is left.
+/// - `NotANumber`: the word is not of at most ten digits.
+/// - `TooLarge`: beyond 2 ^ 30.
 pub fn number_at(line: &[u8], from: usize) -> Result<(i32, usize), LineError>
     requires { from ≤ length line.now }
     ensures { ParsesNumber line.now from result }
@@ -76,7 +68,6 @@ pub fn number_at(line: &[u8], from: usize) -> Result<(i32, usize), LineError>
     }
 }
 
-/// Parses a number, with or without a minus sign.
 fn coordinate(word: &[u8]) -> Result<i32, LineError>
     ensures { ParsesWord IsNumeral word.now result }
 {
@@ -89,7 +80,6 @@ fn coordinate(word: &[u8]) -> Result<i32, LineError>
     }
 }
 
-/// Parses a number of digits, up to 2 ^ 30.
 fn magnitude(digits: &[u8]) -> Result<i32, LineError>
     ensures { ParsesWord IsDecimal digits.now result }
 {

@@ -1,4 +1,4 @@
-//! The output: triangles as lines or as a picture, and refusals.
+//! Output.
 
 use crate::numbers::LineError;
 use crate::rings::Refusal;
@@ -6,29 +6,25 @@ use itoa::Buffer;
 use std::alloc::{AllocError, Global};
 use triangulation::{Point, PolygonError, Ring, Triangle};
 
-/// How triangles are written.
 #[derive(Clone, Copy, Debug, PartialEq, Eq)]
 pub enum Format {
-    /// A line for each triangle, `x y x y x y`, and an empty line after each polygon.
+    /// `x y x y x y` for each triangle, and an empty line after each polygon.
     Lines,
     /// One picture of all polygons.
     Svg,
 }
 
-/// Appends a number to a text.
 pub fn push_number(text: &mut String, number: i64) -> Result<(), AllocError> {
     let mut buffer = Buffer::new();
     text.push_str(buffer.format(number))
 }
 
-/// Appends a point to a text, `x y`.
 fn push_point(text: &mut String, p: Point) -> Result<(), AllocError> {
     push_number(text, i64::from(p.x))?;
     text.push_str(" ")?;
     push_number(text, i64::from(p.y))
 }
 
-/// Appends the corners of a triangle to a text, `x y x y x y`.
 pub fn push_triangle(text: &mut String, t: Triangle) -> Result<(), AllocError> {
     push_point(text, t.a)?;
     text.push_str(" ")?;
@@ -37,8 +33,7 @@ pub fn push_triangle(text: &mut String, t: Triangle) -> Result<(), AllocError> {
     push_point(text, t.c)
 }
 
-/// Returns the reason for refusing a polygon as `line N: REASON`. `first` is the number of its
-/// first line.
+/// `first` is the outline's line number.
 pub fn refusal_text(alloc: Global, first: u64, refusal: Refusal) -> Result<String, AllocError> {
     let (line, reason) = match refusal {
         Refusal::Line(i, error) => (i as u64, line_reason(error)),
@@ -54,7 +49,7 @@ pub fn refusal_text(alloc: Global, first: u64, refusal: Refusal) -> Result<Strin
     }
 }
 
-/// Returns how many lines after the outline a ring is.
+/// Counts lines after the outline.
 fn line_of(ring: Ring) -> u64 {
     match ring {
         Ring::Outline => 0,
@@ -62,7 +57,6 @@ fn line_of(ring: Ring) -> u64 {
     }
 }
 
-/// Returns how many lines after the outline the refused ring is.
 fn refused_ring(error: PolygonError) -> u64 {
     match error {
         PolygonError::TooFewCorners(ring) | PolygonError::NoArea(ring) => line_of(ring),
@@ -73,7 +67,6 @@ fn refused_ring(error: PolygonError) -> u64 {
     }
 }
 
-/// Returns the other ring that a refusal names.
 fn other_ring(refusal: Refusal) -> Option<Ring> {
     match refusal {
         Refusal::Polygon(PolygonError::Meets(_, ring)) => Some(ring),

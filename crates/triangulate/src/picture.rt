@@ -1,4 +1,4 @@
-//! Pictures of triangles, in SVG.
+//! SVG pictures.
 
 use crate::output::{push_number, push_triangle};
 use std::alloc::AllocError;
@@ -8,7 +8,6 @@ const COLORS: [&str; 6] = [
     "#264653", "#2a9d8f", "#8ab17d", "#e9c46a", "#f4a261", "#e76f51",
 ];
 
-/// The bounding box of triangles.
 #[derive(Clone, Copy)]
 struct View {
     left: i32,
@@ -18,7 +17,6 @@ struct View {
 }
 
 impl View {
-    /// Returns a box that has the point, too.
     fn around(self, p: Point) -> View {
         View {
             left: self.left.min(p.x),
@@ -29,7 +27,6 @@ impl View {
     }
 }
 
-/// Returns the difference of two coordinates.
 fn extent(low: i32, high: i32) -> i64 {
     i64::from(high) - i64::from(low)
 }
@@ -55,7 +52,7 @@ fn view_of(triangles: &[Triangle]) -> View {
     view
 }
 
-/// Appends the beginning of a picture. The picture shows the plane with `y` upwards.
+/// Shows `y` upwards.
 pub fn push_head(text: &mut String, triangles: &[Triangle]) -> Result<(), AllocError> {
     let view = view_of(triangles);
     text.push_str("<svg xmlns=\"http://www.w3.org/2000/svg\" viewBox=\"")?;
@@ -72,7 +69,6 @@ pub fn push_head(text: &mut String, triangles: &[Triangle]) -> Result<(), AllocE
     )
 }
 
-/// Appends a triangle, of which so many came before.
 pub fn push_path(text: &mut String, number: usize, t: Triangle) -> Result<(), AllocError> {
     text.push_str("<path fill=\"")?;
     text.push_str(COLORS[number % 6])?;
@@ -81,7 +77,6 @@ pub fn push_path(text: &mut String, number: usize, t: Triangle) -> Result<(), Al
     text.push_str("z\"/>\n")
 }
 
-/// Appends the end of a picture.
 pub fn push_tail(text: &mut String) -> Result<(), AllocError> {
     text.push_str("</g>\n</svg>\n")
 }

@@ -1,4 +1,4 @@
-//! Rings in lines of text.
+//! Rings in lines.
 
 ghost use Rattle.std.specs.Prelude.{◌<◌, length};
 ghost use Rattle.triangulate.specs.LinePolygons.{ParsesRings, TriangulatesLines};
@@ -21,22 +21,13 @@ impl<T: Drop> From<AllocFailed<T>> for LineError {
     }
 }
 
-/// The reason why a polygon is refused.
 #[derive(Clone, Copy, Debug, PartialEq, Eq)]
 pub enum Refusal {
-    /// The line of this index, from the first one of the polygon on, is not a ring.
+    /// The line of this index, from the outline on.
     Line(usize, LineError),
-    /// The rings are not a polygon that can be triangulated.
     Polygon(PolygonError),
 }
 
-/// Parses a ring: the points of a line, each of two numbers, separated by spaces.
-///
-/// # Errors
-///
-/// - `NotANumber`, `TooLarge`: a word is not a number, or beyond 2 ^ 30.
-/// - `OddNumber`: the last point has one number.
-/// - `Memory`: an allocation failed.
 fn ring(alloc: Global, line: &[u8]) -> Result<Vec<Point>, LineError>
     ensures { ParsesRing line.now result }
 {
@@ -51,7 +42,6 @@ fn ring(alloc: Global, line: &[u8]) -> Result<Vec<Point>, LineError>
     Ok(points)
 }
 
-/// Parses the rings of a polygon, one in each line.
 fn rings(alloc: Global, lines: &[Vec<u8>]) -> Result<Vec<Vec<Point>>, Refusal>
     ensures { ParsesRings (texts_of lines.now) result }
 {
@@ -69,12 +59,7 @@ fn rings(alloc: Global, lines: &[Vec<u8>]) -> Result<Vec<Vec<Point>>, Refusal>
     Ok(rings)
 }
 
-/// Triangulates the polygon whose outline is the first line, and whose holes are the others.
-///
-/// # Errors
-///
-/// - `Line`: a line is not a ring.
-/// - `Polygon`: the reason of `triangulate_polygon`, or an allocation failed.
+/// Triangulates the polygon of these lines, outline first.
 pub fn triangulate_lines<P: PtrKey, A: ChainArenaTrait<P, Point> + Drop>(
     alloc: Global,
     lines: Vec<Vec<u8>>,

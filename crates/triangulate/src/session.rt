@@ -1,4 +1,4 @@
-//! Runs, which read polygons from a reader and write their triangles to a writer.
+//! Runs.
 
 use crate::lines::{Ended, Lines};
 use crate::output::{Format, push_triangle, refusal_text};
@@ -10,14 +10,10 @@ use std::alloc::{AllocError, AllocFailed, Global};
 use std::io::{ErrorKind, Read, Write};
 use triangulation::{Point, Triangle};
 
-/// The reason that a run stopped before the end of its input.
 #[derive(Clone, Copy, Debug, PartialEq, Eq)]
 pub enum RunError {
-    /// The reader failed.
     Read,
-    /// The writer failed.
     Write,
-    /// An allocation failed.
     Memory,
 }
 
@@ -33,7 +29,6 @@ impl<T: Drop> From<AllocFailed<T>> for RunError {
     }
 }
 
-/// What a run keeps beside its lines.
 #[derive(Drop)]
 struct Session {
     alloc: Global,
@@ -44,7 +39,6 @@ struct Session {
 }
 
 impl Session {
-    /// Writes the triangles of a polygon, or keeps them for the picture.
     fn put_triangles<W: Write>(
         &mut self,
         triangles: &[Triangle],
@@ -63,7 +57,6 @@ impl Session {
         put("\n", writer)
     }
 
-    /// Writes the reason for refusing a polygon.
     fn put_refusal<W: Write>(
         &mut self,
         first: u64,
@@ -81,7 +74,6 @@ impl Session {
         put("\n\n", writer)
     }
 
-    /// Writes the picture.
     fn put_picture<W: Write>(&mut self, writer: &mut W) -> Result<(), RunError> {
         self.text.clear();
         push_head(&mut self.text, &self.drawn)?;
@@ -101,7 +93,6 @@ fn put<W: Write>(text: &str, writer: &mut W) -> Result<(), RunError> {
     writer.write_all(text.as_bytes()).or(Err(RunError::Write))
 }
 
-/// Triangulates the polygon of the lines so far, if there are any.
 fn end_polygon<P: PtrKey, A: ChainArenaTrait<P, Point> + Drop, W: Write>(
     session: &mut Session,
     lines: &mut Lines,
@@ -117,7 +108,6 @@ fn end_polygon<P: PtrKey, A: ChainArenaTrait<P, Point> + Drop, W: Write>(
     }
 }
 
-/// Ends the line, and the polygon if the line is blank.
 fn end_line<P: PtrKey, A: ChainArenaTrait<P, Point> + Drop, W: Write>(
     session: &mut Session,
     lines: &mut Lines,
@@ -129,7 +119,6 @@ fn end_line<P: PtrKey, A: ChainArenaTrait<P, Point> + Drop, W: Write>(
     }
 }
 
-/// Triangulates the polygons that a piece of the input completes.
 fn feed<P: PtrKey, A: ChainArenaTrait<P, Point> + Drop, W: Write>(
     session: &mut Session,
     lines: &mut Lines,
@@ -146,7 +135,6 @@ fn feed<P: PtrKey, A: ChainArenaTrait<P, Point> + Drop, W: Write>(
     Ok(())
 }
 
-/// Triangulates the rest of the input, of which no byte is left.
 fn finish<P: PtrKey, A: ChainArenaTrait<P, Point> + Drop, W: Write>(
     session: &mut Session,
     lines: &mut Lines,
@@ -165,12 +153,6 @@ fn finish<P: PtrKey, A: ChainArenaTrait<P, Point> + Drop, W: Write>(
 }
 
 /// Triangulates the polygons of a reader, and returns how many were refused.
-///
-/// # Errors
-///
-/// - `Memory`: an allocation failed.
-/// - `Write`: the writer failed.
-/// - `Read`: the reader failed.
 pub fn run<P: PtrKey, A: ChainArenaTrait<P, Point> + Drop, R: Read, W: Write>(
     alloc: Global,
     format: Format,
@@ -186,7 +168,7 @@ pub fn run<P: PtrKey, A: ChainArenaTrait<P, Point> + Drop, R: Read, W: Write>(
         drawn: Vec::new(alloc),
         refused: 0,
     };
-    // Each loop is proved to end, so the reads are bounded.
+    // Bounded, since each loop is proved to end.
     for _ in 0..u64::MAX {
         match reader.read(&mut piece) {
             Ok(0) => return finish::<P, A, W>(&mut session, &mut lines, writer),

@@ -1,4 +1,4 @@
-//! Runs and their exit statuses.
+//! Exit statuses.
 
 use crate::output::Format;
 use crate::session::{RunError, run};
@@ -10,7 +10,6 @@ use std::io::{Read, Write};
 use std::process::{ExitCode, Termination};
 use triangulation::Point;
 
-/// The exit status of a run.
 pub struct Status {
     code: ExitCode,
 }
@@ -22,10 +21,7 @@ impl Termination for Status {
     }
 }
 
-/// Triangulates the polygons of a reader, with output to a writer if there is memory for its buffer.
-///
-/// Returns the exit status: 0, 1 if a polygon was refused, or 2 after a fault, which is written to
-/// `errors`.
+/// Returns 0, 1 if a polygon was refused, or 2 after a fault written to `errors`.
 pub fn respond_to_input<R: Read, W: Write + Drop, E: Write>(
     alloc: Global,
     format: Option<Format>,
@@ -56,7 +52,6 @@ pub fn respond_to_input<R: Read, W: Write + Drop, E: Write>(
     Status { code }
 }
 
-/// Returns the line that is written to standard error at a fault.
 fn reason(error: RunError) -> &'static str {
     match error {
         RunError::Read => "triangulate: cannot read\n",

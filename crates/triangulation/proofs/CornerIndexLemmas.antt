@@ -1,4 +1,4 @@
--- Boxes of blocks of items, and lists of the corners of a ring.
+-- Boxes of blocks, and lists of corners.
 use Rattle.std.proofs.Common.{◌≡◌, ℕ, ◌+◌, ◌-◌, ◌/◌, ◌≤◌, ◌<◌, ⊎_elim, List, [], ◌∷◌, ◌++◌, length, take, drop, get_or, map, Option, Some, sym, ap, ◌∙◌, subst, arith, length-drop}
 use Rattle.std.specs.Prelude.{All, slice_get, slice_range}
 use Rattle.std.specs.Option.{option_map}

@@ -1,4 +1,4 @@
--- The number of crossings of a ring is unique, so that no point is both inside and outside.
+-- The number of crossings of a ring is unique.
 use Rattle.std.proofs.Common.{◌≡◌, ℕ, ◌+◌, ◌*◌, ◌/◌, ◌%◌, nat_eq, IsTrue, IsFalse, inl, inr, List, [], ◌∷◌, sym, ap, ◌∙◌, subst, arith, rules}
 use Rattle.std.specs.Prelude.{◌↔◌}
 use Rattle.std.proofs.lemmas.Bool.{true_from_ne_false, false_from_ne_true}
@@ -32,7 +32,6 @@ not_both p ring inside outside =
     let numbers = crossings_once p inside.path (2 * inside.half + 1) (2 * outside.half) inside.crossings (subst (λ (l : List Point). HasCrossings p l (2 * outside.half)) same outside.crossings) in
     omega (arith, numbers)
 
--- A point with this number of crossings of a ring is inside exactly if the number is odd.
 module _ (p : Point) (ring : List Point) (n : ℕ) (has : (path : List Point) × IsAround ring path × HasCrossings p path n) where
   inside_of : IsTrue (nat_eq (n % 2) 1) → IsInside p ring
   inside_of is =

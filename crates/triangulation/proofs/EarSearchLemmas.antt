@@ -16,7 +16,6 @@ use Rattle.triangulation.specs.Triangulations.{IsEar, BeginsWithEar, HasNoEar}
 use Rattle.triangulation.specs.Clippings.{points, IsRingFrom, SeesNoEar}
 use Rattle.triangulation.proofs.ReadingLemmas.{IsRead, read_starts, ring_here, next_key, next_exists, valid_here}
 
--- The corner after so many others.
 pub record IsReached {Gen : Type 0} (items : List (Item Gen Point)) (at : ℕ × Gen) (n : ℕ) : Type 0 where
   pub read : List Point
   pub place : IsRead items at read n

@@ -1,4 +1,4 @@
--- Rings joined by bridges: their corners and areas.
+-- Corners and areas of joined rings.
 use Rattle.std.proofs.Common.{◌≡◌, ℕ, suc, ◌+◌, ◌<◌, ℤ, pos, neg_ℤ, ◌+ℤ◌, ◌≤ℤ◌, unsigned_abs, ⊎_elim, List, [], ◌∷◌, ◌++◌, map, length, take, drop, get_or, refl, sym, ap, ◌∙◌, subst, arith}
 use Rattle.std.specs.Prelude.{Contains, reverse}
 use Rattle.std.proofs.Math.Seq.{drop-cons}

@@ -17,7 +17,6 @@ of_passed P a b c d fits_a fits_b fits_c fits_d holds =
     let P1 = λ (z : ℤ). P z b c d in
     subst P1 (to_z-of_z w32 a fits_a) (subst P2 (to_z-of_z w32 b fits_b) (subst P3 (to_z-of_z w32 c fits_c) (subst P4 (to_z-of_z w32 d fits_d) holds)))
 
--- The last corner.
 abbrev pub end_of : List Point → Point
 end_of [] = origin
 end_of (a ∷ []) = a

@@ -1,4 +1,4 @@
--- Reading the corners of a ring, one after the other.
+-- Reading the corners of a ring in order.
 use Rattle.std.proofs.Common.{◌≡◌, ℕ, ◌+◌, ◌≤◌, inl, inr, List, [], ◌∷◌, ◌++◌, map, length, Option, None, Some, refl, sym, ap, ◌∙◌, subst, arith}
 use Rattle.std.specs.Prelude.{is_some, true}
 use Rattle.std.specs.Option.{option_map}
@@ -16,7 +16,6 @@ use Rattle.triangulation.specs.declared.points.Point.{Point}
 use Rattle.triangulation.specs.Clippings.{points, IsRingFrom}
 use Rattle.triangulation.proofs.CornerLemmas.{stored_right, ring_turned, value_read}
 
--- The corners before `here` have been read.
 pub record IsRead {Gen : Type 0} (items : List (Item Gen Point)) (at : ℕ × Gen) (read : List Point) (n : ℕ) : Type 0 where
   pub passed : List (Item Gen Point)
   pub here : Item Gen Point

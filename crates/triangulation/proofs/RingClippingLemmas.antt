@@ -1,4 +1,4 @@
--- Turns of a ring of corners, and the removal of an ear's corner from it.
+-- Turns of a ring, and the removal of a corner.
 use Rattle.std.proofs.Common.{◌≡◌, ℕ, ◌+◌, ◌-◌, ◌≤◌, ⊎_elim, List, [], ◌∷◌, ◌++◌, length, Option, None, Some, refl, sym, ap, ◌∙◌, subst, arith}
 use Rattle.std.specs.Option.{option_map}
 use Rattle.std.proofs.lemmas.Bool.{cases_order}
@@ -64,7 +64,6 @@ module _ {A Gen : Type 0} {view : A → ArenaView Gen Point} {entry : A → ℕ 
             ear = is.5;
           }
 
-  -- The corner of an ear is removed from its ring.
   module _ {P I W : Type 0} (pointers : PointerKind P I Gen W) (old new : A) where
     pub ear_removed : (q : P) (result : Option Point) (items : List (Item Gen Point)) (p after : ℕ × Gen) (t : Triangle) (ear : HasEar state interlinks old items p (pointers.key q) after t) → RemovesItem state interlinks cyclic pointers old q result new
         → IsRing state interlinks new ((p, t.a) ∷ (after, t.c) ∷ ear.rest) × (count (view old) ≡ count (view new) + 1)

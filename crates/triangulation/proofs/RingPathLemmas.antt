@@ -1,4 +1,4 @@
--- Paths along the edges of a ring, from its last corner on.
+-- Paths along the edges of a ring.
 use Rattle.std.proofs.Common.{◌≡◌, ℕ, ◌+◌, ◌-◌, ◌<◌, ◌≤◌, ℤ, pos, ◌+ℤ◌, suc, List, [], ◌∷◌, ◌++◌, map, length, take, drop, get_or, refl, sym, ap, ◌∙◌, subst, arith}
 use Rattle.std.proofs.Math.Seq.{take-length, drop-cons}
 use Rattle.std.proofs.lemmas.List.{append_assoc, map-append, take_more, take-append-drop, take_all}
@@ -52,7 +52,6 @@ module _ (ring : List Point) (at : Point) (i : ℕ) (is : IsPathTo ring at i) (m
   path_longer : (F : List Point → ℤ) → F ((is.front ++ at ∷ []) ++ get_or ring i origin ∷ []) ≡ F (is.last ∷ take (i + 1) ring)
   path_longer F = ap F (ap (λ (l : List Point). l ++ get_or ring i origin ∷ []) (sym is.whole) ∙ ap (λ (l : List Point). is.last ∷ l) (sym (take_more ring i origin more)))
 
--- The sum over the edges so far.
 pub record HasPathArea (ring : List Point) (at : Point) (i : ℕ) (sum : ℤ) : Type 0 where
   pub path : IsPathTo ring at i
   pub total : sum ≡ area.path_area (map coordinates (path.last ∷ take i ring))
@@ -94,7 +93,6 @@ crossings_grow p [] a b n k has is = (k, 0, is, refl, omega (arith, has))
 crossings_grow p (x ∷ []) a b n k has is = (has.0, has.1 + k, has.2, crossings_grow p [] a b has.1 k has.3 is, omega (arith, has.4))
 crossings_grow p (x ∷ y ∷ front) a b n k has is = (has.0, has.1 + k, has.2, crossings_grow p (y ∷ front) a b has.1 k has.3 is, omega (arith, has.4))
 
--- The number of crossings so far.
 pub record HasPathCrossings (p : Point) (ring : List Point) (at : Point) (i n : ℕ) : Type 0 where
   pub path : IsPathTo ring at i
   pub number : HasCrossings p (path.last ∷ take i ring) n

@@ -1,4 +1,4 @@
--- A point in a triangle is in each box that has the three corners.
+-- A triangle is in each box that has its corners.
 use Rattle.std.proofs.Common.{◌≡◌, zero, suc, ℤ, pos, negsuc, ◌+ℤ◌, ◌-ℤ◌, ◌*ℤ◌, ◌<ℤ◌, ◌≤ℤ◌, [], ◌∷◌, sym, ap, ◌∙◌, arith}
 use Rattle.std.proofs.Math.IntN.{suc_ℤ, pred_ℤ, suc_ℤ-*ℤ, pred_ℤ-*ℤ, zero-*ℤ, *ℤ-zero, *ℤ_comm}
 use Rattle.std.proofs.lemmas.Int.{ints, by_lt_z}

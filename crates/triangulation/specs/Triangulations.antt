@@ -1,4 +1,4 @@
--- Triangulations of polygons.
+-- Triangulations.
 use Rattle.std.specs.Prelude.{◌≡◌, ◌≢◌, ℕ, ◌≤ℤ◌, ◌++◌, take, drop, ℤ, pos, ◌+ℤ◌, ◌<ℤ◌, ◌+◌, List, [], ◌∷◌, map, length, All, Contains, ◌<◌, ◌≤◌, Result, Ok, Err}
 use Rattle.std.specs.declared.vec.Vec.{Vec}
 use Rattle.std.specs.declared.alloc.Global.{Global}
@@ -8,15 +8,14 @@ use Rattle.triangulation.specs.declared.points.Triangle.{Triangle}
 use Rattle.triangulation.specs.declared.errors.TriangulationError.{TriangulationError}
 use Rattle.triangulation.specs.declared.errors.TriangulationError.TheVariants as why
 
--- A point's coordinates.
 abbrev pub coordinates : Point → area.Point
 coordinates p = (p.x, p.y)
 
--- Twice the signed area of a polygon with these corners.
+-- Twice the signed area of a polygon.
 abbrev pub polygon_area : List Point → ℤ
 polygon_area corners = area.double_area (map coordinates corners)
 
--- Twice the signed area of a triangle, and the sum of these of several.
+-- Twice the signed area of a triangle.
 abbrev pub triangle_area : Triangle → ℤ
 triangle_area t = area.orientation (coordinates t.a) (coordinates t.b) (coordinates t.c)
 
@@ -24,14 +23,14 @@ abbrev pub total_area : List Triangle → ℤ
 total_area [] = pos 0
 total_area (t ∷ ts) = triangle_area t +ℤ total_area ts
 
--- The corners of a triangle are corners of the polygon, and turn counterclockwise.
+-- A counterclockwise triangle of corners of the polygon.
 pub record IsTriangleOf (corners : List Point) (t : Triangle) : Type 0 where
   pub first : Contains corners t.a
   pub second : Contains corners t.b
   pub third : Contains corners t.c
   pub positive : pos 0 <ℤ triangle_area t
 
--- A point is in a triangle or on its sides, and is none of its corners.
+-- In a triangle or on its sides, but no corner.
 pub record IsInTriangle (t : Triangle) (p : Point) : Type 0 where
   pub not_first : p ≢ t.a
   pub not_second : p ≢ t.b
@@ -40,17 +39,17 @@ pub record IsInTriangle (t : Triangle) (p : Point) : Type 0 where
   pub second_side : pos 0 ≤ℤ area.orientation (coordinates t.b) (coordinates t.c) (coordinates p)
   pub third_side : pos 0 ≤ℤ area.orientation (coordinates t.c) (coordinates t.a) (coordinates p)
 
--- A triangle is counterclockwise, and none of the other corners is in it.
+-- A counterclockwise triangle with no other corner in it.
 pub record IsEar (t : Triangle) (others : List Point) : Type 0 where
   pub positive : pos 0 <ℤ triangle_area t
   pub empty : (p : Point) → Contains others p → IsInTriangle t p → ⊥
 
--- The same ring, listed from another corner.
+-- The same ring from another corner.
 pub data IsTurnOf : List Point → List Point → Type 0 where
   unturned : (corners : List Point) → IsTurnOf corners corners
   turned_on : (a : Point) (others turned : List Point) → IsTurnOf (others ++ a ∷ []) turned → IsTurnOf (a ∷ others) turned
 
--- Each triangle is an ear of the corners that the ones before it leave, and `rest` is left at last.
+-- Each triangle is an ear of what the earlier ones leave, at last `rest`.
 abbrev pub AreEarsOf : List Point → List Triangle → List Point → Type 0
 AreEarsOf corners [] rest = IsTurnOf corners rest
 AreEarsOf corners (t ∷ ts) rest = (others : List Point) × IsTurnOf corners (t.a ∷ t.b ∷ t.c ∷ others) × IsEar t others × AreEarsOf (t.a ∷ t.c ∷ others) ts rest
@@ -59,15 +58,13 @@ AreEarsOf corners (t ∷ ts) rest = (others : List Point) × IsTurnOf corners (t
 abbrev pub AreAllEarsOf : List Point → List Triangle → Type 0
 AreAllEarsOf corners triangles = (a b : Point) × AreEarsOf corners triangles (a ∷ b ∷ [])
 
--- Two triangles fewer than corners, which have the polygon's area together. Each is an ear of the
--- corners that the ones before it leave.
+-- Two triangles fewer than corners, all ears, with the polygon's area together.
 pub record IsTriangulation (corners : List Point) (triangles : List Triangle) : Type 0 where
   pub number : length triangles + 2 ≡ length corners
   pub each : All (IsTriangleOf corners) triangles
   pub areas : total_area triangles ≡ polygon_area corners
   pub ears : AreAllEarsOf corners triangles
 
--- The first three corners are an ear.
 abbrev pub BeginsWithEar : List Point → Type 0
 BeginsWithEar [] = ⊥
 BeginsWithEar (a ∷ []) = ⊥
@@ -78,7 +75,7 @@ BeginsWithEar (a ∷ b ∷ c ∷ others) = IsEar (record { a = a; b = b; c = c }
 abbrev pub HasNoEar : List Point → Type 0
 HasNoEar corners = (n : ℕ) → n < length corners → BeginsWithEar (drop n corners ++ take n corners) → ⊥
 
--- The triangles and the remaining corners are together the polygon. The triangles are its ears.
+-- Ears and the remaining corners are together the polygon.
 pub record IsClipping (corners : List Point) (triangles : List Triangle) (remaining : List Point) : Type 0 where
   pub number : length triangles + length remaining ≡ length corners
   pub each : All (IsTriangleOf corners) triangles
@@ -86,7 +83,7 @@ pub record IsClipping (corners : List Point) (triangles : List Triangle) (remain
   pub among : (p : Point) → Contains remaining p → Contains corners p
   pub ears : AreEarsOf corners triangles remaining
 
--- Triangles were clipped until at least three corners were left, of which none is an ear.
+-- Three corners or more remain, without an ear.
 pub record IsStuck (corners : List Point) : Type 0 where
   pub triangles : List Triangle
   pub remaining : List Point
@@ -94,7 +91,7 @@ pub record IsStuck (corners : List Point) : Type 0 where
   pub three : 3 ≤ length remaining
   pub none : HasNoEar remaining
 
--- `triangulate_points`: the corners are triangulated, or why they are not.
+-- `triangulate_points`: the triangles, or why not.
 abbrev pub TriangulatesPoints : List Point → Result (Vec Triangle Global) TriangulationError → Type 0
 TriangulatesPoints corners (Ok triangles) = (3 ≤ length corners) × IsTriangulation corners triangles.items
 TriangulatesPoints corners (Err why.InvalidPointer) = ⊥

@@ -1,4 +1,4 @@
-//! The signed area of a ring of corners, exact for all coordinates.
+//! Signed areas.
 
 ghost use Rattle.std.specs.Prelude.{◌≡◌, ◌≤◌, ◌^◌, ◌*ℤ◌, unsigned_abs};
 ghost use Rattle.polygon_laws.specs.Areas as area;
@@ -6,9 +6,8 @@ ghost use Rattle.triangulation.specs.Triangulations.{coordinates, polygon_area};
 
 use crate::points::Point;
 
-/// Returns twice the signed area of a polygon: positive if its corners turn counterclockwise.
-///
-/// It is exact for all coordinates, and 0 for fewer than three corners.
+/// Returns twice the exact signed area: positive if the corners turn counterclockwise, 0 for fewer
+/// than three.
 pub fn double_area(corners: &[Point]) -> i128
     ensures { result ≡ polygon_area corners.now }
 {
@@ -24,7 +23,6 @@ pub fn double_area(corners: &[Point]) -> i128
     sum
 }
 
-// Returns twice the signed area between the origin and the edge from `p` to `q`.
 fn edge_area(p: Point, q: Point) -> i128
     ensures value { result ≡ area.edge_area (coordinates p) (coordinates q) }
     ensures small { unsigned_abs result ≤ 2 ^ 63 }
@@ -34,7 +32,6 @@ fn edge_area(p: Point, q: Point) -> i128
     first - second
 }
 
-// Returns the product of two coordinates.
 fn coordinate_product(a: i32, b: i32) -> i128
     ensures value { result ≡ a *ℤ b }
     ensures small { unsigned_abs result ≤ 2 ^ 62 }

@@ -6,7 +6,6 @@ ghost use Rattle.triangulation.specs.CornerIndexes.{IsInBox, BoxHasAllOf};
 
 use crate::points::{Point, Triangle};
 
-// The least rectangle with sides along the axes that has some points.
 #[derive(Clone, Copy)]
 pub struct BoundingBox {
     left: i32,
@@ -16,7 +15,7 @@ pub struct BoundingBox {
 }
 
 impl BoundingBox {
-    // Returns the bounding box of no points, which meets no other one.
+    // Meets no other box.
     pub fn empty() -> BoundingBox {
         BoundingBox {
             left: i32::MAX,
@@ -26,7 +25,6 @@ impl BoundingBox {
         }
     }
 
-    // Returns the bounding box of these points and `p`.
     pub fn with_point(self, p: Point) -> BoundingBox
         ensures point { IsInBox result p }
         ensures rest { BoxHasAllOf result self }
@@ -39,7 +37,6 @@ impl BoundingBox {
         }
     }
 
-    // Returns the bounding box of the points of both.
     pub fn with_box(self, other: BoundingBox) -> BoundingBox
         ensures first { BoxHasAllOf result self }
         ensures second { BoxHasAllOf result other }
@@ -52,7 +49,6 @@ impl BoundingBox {
         }
     }
 
-    // Returns the bounding box of a triangle.
     pub fn of_triangle(t: Triangle) -> BoundingBox
         ensures { pos 0 <ℤ triangle_area t → (p : Point) → IsInTriangle t p → IsInBox result p }
     {
@@ -62,7 +58,6 @@ impl BoundingBox {
             .with_point(t.c)
     }
 
-    // Returns the bounding box of the corners.
     pub fn of_ring(ring: &[Point]) -> BoundingBox
         ensures { All (IsInBox result) ring.now }
     {
@@ -73,7 +68,6 @@ impl BoundingBox {
         around
     }
 
-    // Returns the bounding box of several boxes.
     pub fn of_boxes(boxes: &[BoundingBox]) -> BoundingBox
         ensures { All (BoxHasAllOf result) boxes.now }
     {
@@ -84,7 +78,6 @@ impl BoundingBox {
         around
     }
 
-    // Returns whether both have a common point.
     pub fn meets(&self, other: &BoundingBox) -> bool
         ensures { (p : Point) → IsInBox self.now p → IsInBox other.now p → IsTrue result }
     {
@@ -94,7 +87,6 @@ impl BoundingBox {
             && other.bottom <= self.top
     }
 
-    // Returns whether a point is in the box.
     pub fn has(&self, p: Point) -> bool
         ensures { IsTrue result ↔ IsInBox self.now p }
     {
@@ -102,7 +94,6 @@ impl BoundingBox {
     }
 }
 
-// Returns whether a coordinate is in a range.
 fn is_between(low: i32, x: i32, high: i32) -> bool
     ensures { IsTrue result ↔ ((low ≤ℤ x) × (x ≤ℤ high)) }
 {

@@ -1,10 +1,9 @@
-//! Bridges from a hole to the outline around it.
+//! Bridges to holes.
 
 ghost use Rattle.std.specs.Prelude.{◌<◌, length, IfSome};
 
 use crate::points::{Point, is_left, is_left_or_on, orientation};
 
-// Returns the index of a corner that is farthest to the left.
 pub fn leftmost(ring: &[Point]) -> usize
     requires { 0 < length ring.now }
     ensures { result < length ring.now }
@@ -18,7 +17,7 @@ pub fn leftmost(ring: &[Point]) -> usize
     least
 }
 
-// Returns the least coordinate to the right, or 0 if there are no corners.
+// Returns the least `x`, or 0 without corners.
 pub fn left_end(ring: &[Point]) -> i32 {
     if ring.is_empty() {
         0
@@ -27,10 +26,7 @@ pub fn left_end(ring: &[Point]) -> i32 {
     }
 }
 
-// Returns the index of a corner of the outline that is visible from `from`.
-//
-// This is the leftmost corner of a hole, which is inside the outline and touches it nowhere. The
-// result is unspecified otherwise.
+// Returns the index of a corner visible from `from`, the leftmost corner of a disjoint hole inside.
 pub fn find_bridge(outline: &[Point], from: Point) -> usize
     requires { 0 < length outline.now }
     ensures { result < length outline.now }
@@ -41,7 +37,6 @@ pub fn find_bridge(outline: &[Point], from: Point) -> usize
     }
 }
 
-// Returns the index of the next corner.
 fn next_index(outline: &[Point], i: usize) -> usize
     requires { i < length outline.now }
     ensures { result < length outline.now }
@@ -49,7 +44,6 @@ fn next_index(outline: &[Point], i: usize) -> usize
     if i + 1 < outline.len() { i + 1 } else { 0 }
 }
 
-// Returns the index of the corner before.
 fn previous_index(outline: &[Point], i: usize) -> usize
     requires { i < length outline.now }
     ensures { result < length outline.now }
@@ -57,7 +51,6 @@ fn previous_index(outline: &[Point], i: usize) -> usize
     if i == 0 { outline.len() - 1 } else { i - 1 }
 }
 
-// Returns the index of the first end of the edge that a ray from `from` to the left meets first.
 fn edge_to_the_left(outline: &[Point], from: Point) -> Option<usize>
     ensures { IfSome result (λ i. i < length outline.now) }
 {
@@ -71,7 +64,6 @@ fn edge_to_the_left(outline: &[Point], from: Point) -> Option<usize>
     nearest
 }
 
-// Returns whether the descending edge at `i` is to the right of the nearest one so far.
 fn is_nearest(outline: &[Point], i: usize, nearest: Option<usize>) -> bool
     requires first { i < length outline.now }
     requires second { IfSome nearest (λ j. j < length outline.now) }
@@ -82,12 +74,11 @@ fn is_nearest(outline: &[Point], i: usize, nearest: Option<usize>) -> bool
     }
 }
 
-// Returns whether the edge from `p` down to `q` meets the ray from `from` to the left.
 fn is_descent_left_of(p: Point, q: Point, from: Point) -> bool {
     p.y >= from.y && q.y < from.y && is_left_or_on(p, q, from)
 }
 
-// Returns whether the descending edge at `i` is to the right of the one at `j`. They do not cross.
+// The descending edges at `i` and `j` do not cross.
 fn is_nearer(outline: &[Point], i: usize, j: usize) -> bool
     requires first { i < length outline.now }
     requires second { j < length outline.now }
@@ -114,8 +105,6 @@ fn is_nearer(outline: &[Point], i: usize, j: usize) -> bool
     }
 }
 
-// Returns the index of the corner that is visible from `from` in the triangle with the first hit on
-// the descending edge at `i` and the left end of that edge.
 fn visible_corner(outline: &[Point], i: usize, from: Point) -> usize
     requires { i < length outline.now }
     ensures { result < length outline.now }
@@ -145,8 +134,7 @@ fn visible_corner(outline: &[Point], i: usize, from: Point) -> usize
     best
 }
 
-// The triangle in which a visible corner is searched: of `from`, the point to its left on the edge
-// from `top` to `bottom`, and the end of this edge.
+// The triangle of `from`, the point to its left on the edge from `top` to `bottom`, and `end`.
 #[derive(Clone, Copy)]
 struct View {
     from: Point,
@@ -156,12 +144,10 @@ struct View {
 }
 
 impl View {
-    // Returns whether a point is in the triangle or on its sides.
     fn holds(&self, p: Point) -> bool {
         p.x <= self.from.x && self.is_on_side(p) && is_left_or_on(self.top, self.bottom, p)
     }
 
-    // Returns whether a point is between the ray to the left and the line to the end.
     fn is_on_side(&self, p: Point) -> bool {
         if self.end.y >= self.from.y {
             p.y >= self.from.y && is_left_or_on(self.from, self.end, p)
@@ -170,7 +156,7 @@ impl View {
         }
     }
 
-    // Returns whether `p` is seen at a smaller angle to the ray than `q`, or not behind it.
+    // Compares angles to the ray, then distances.
     fn is_before(&self, p: Point, q: Point) -> bool {
         let side = orientation(self.from, q, p);
         if side == 0 {
@@ -180,7 +166,7 @@ impl View {
     }
 }
 
-// Returns whether `from` is seen inside the outline from its corner at `i`.
+// Returns whether `from` is in the interior angle at `i`.
 fn opens_to(outline: &[Point], i: usize, from: Point) -> bool
     requires { i < length outline.now }
 {

@@ -1,4 +1,4 @@
-//! Ears of a ring of corners, and their removal.
+//! Ear clipping.
 
 ghost use Rattle.std.specs.Prelude.{◌≡◌, map, length, IfSome, IfNone};
 ghost use Rattle.triangulation.specs.Clippings.{IsEarAfter, SeesNoEar, FindsEar, FindsNoEar, ClipsEars};
@@ -12,7 +12,6 @@ use chain_traits::ChainArenaTrait;
 use polygons::Polygons;
 use std::alloc::Global;
 
-// Three corners in a row, and their triangle.
 #[derive(Clone, Copy)]
 struct Ear<P: PtrKey> {
     before: P,
@@ -21,7 +20,6 @@ struct Ear<P: PtrKey> {
     triangle: Triangle,
 }
 
-// Returns the ear at the corner after `before`, if there is one.
 fn ear_after<P: PtrKey, A: ChainArenaTrait<P, Point> + Drop>(
     ring: &Polygons<P, Point, A>,
     index: &CornerIndex<P>,
@@ -53,7 +51,7 @@ fn ear_after<P: PtrKey, A: ChainArenaTrait<P, Point> + Drop>(
     }
 }
 
-// Returns the first ear from `start` on in its ring, which has so many corners, if it has one.
+// `left` is the number of corners of the ring.
 fn find_ear<P: PtrKey, A: ChainArenaTrait<P, Point> + Drop>(
     ring: &Polygons<P, Point, A>,
     index: &CornerIndex<P>,
@@ -78,10 +76,8 @@ fn find_ear<P: PtrKey, A: ChainArenaTrait<P, Point> + Drop>(
     None
 }
 
-// Clips the ears of the ring of `start` until two corners are left, and returns the triangles.
-//
-// The ring is alone in its arena, and has as many corners as the list. After an ear, the search goes
-// on two corners further, so that triangles stay small.
+// The ring is alone in its arena. After an ear, the search goes on two corners further, so that
+// triangles stay small.
 pub fn clip_ears<P: PtrKey, A: ChainArenaTrait<P, Point> + Drop>(
     ring: &mut Polygons<P, Point, A>,
     index: &CornerIndex<P>,

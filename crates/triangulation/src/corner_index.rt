@@ -1,4 +1,4 @@
-//! An index of the corners of a ring by blocks of their list, to find those in a triangle.
+//! An index of corners by bounding boxes.
 
 ghost use Rattle.std.specs.Prelude.{◌≡◌, ℕ, pos, ◌<ℤ◌, ◌<◌, ◌≤◌, ◌/◌, map, length, IfOk, IsTrue, IsFalse, Some};
 ghost use Rattle.triangulation.specs.Clippings.{HoldsCorner};
@@ -12,10 +12,9 @@ use chain_traits::ChainArenaTrait;
 use polygons::Polygons;
 use std::alloc::{AllocError, Global};
 
-// The number of corners in a block, and of blocks in a group.
+// Corners in a block, and blocks in a group.
 const BLOCK: usize = 32;
 
-// The pointers of corners, and the bounding boxes of blocks of corners and of groups of blocks.
 #[derive(Drop)]
 pub struct CornerIndex<P: PtrKey> {
     pointers: Vec<P>,
@@ -24,7 +23,7 @@ pub struct CornerIndex<P: PtrKey> {
 }
 
 impl<P: PtrKey> CornerIndex<P> {
-    // Creates an index of corners, which are listed in the order of their pointers.
+    // `corners` are in the order of `pointers`.
     pub fn new(
         alloc: Global,
         corners: &[Point],
@@ -44,7 +43,6 @@ impl<P: PtrKey> CornerIndex<P> {
     }
 }
 
-// Returns where a block begins and ends in a list of so many items.
 fn block_range(block: usize, len: usize) -> (usize, usize)
     ensures ordered { result.0 ≤ result.1 }
     ensures within { result.1 ≤ len }
@@ -54,7 +52,6 @@ fn block_range(block: usize, len: usize) -> (usize, usize)
     (first, first.saturating_add(BLOCK).min(len))
 }
 
-// Returns the bounding boxes of blocks of corners.
 fn blocks_of(alloc: Global, corners: &[Point]) -> Result<Vec<BoundingBox>, AllocError>
     ensures { IfOk result (λ blocks. AreBlocksOf corners.now blocks.items) }
 {
@@ -67,7 +64,6 @@ fn blocks_of(alloc: Global, corners: &[Point]) -> Result<Vec<BoundingBox>, Alloc
     Ok(blocks)
 }
 
-// Returns the bounding boxes of groups of blocks.
 fn groups_of(alloc: Global, blocks: &[BoundingBox]) -> Result<Vec<BoundingBox>, AllocError>
     ensures { IfOk result (λ groups. AreGroupsOf blocks.now groups.items) }
 {
@@ -80,7 +76,6 @@ fn groups_of(alloc: Global, blocks: &[BoundingBox]) -> Result<Vec<BoundingBox>, 
     Ok(groups)
 }
 
-// Returns whether a corner of the ring is in the triangle, which turns counterclockwise.
 pub fn holds_corner<P: PtrKey, A: ChainArenaTrait<P, Point> + Drop>(
     ring: &Polygons<P, Point, A>,
     index: &CornerIndex<P>,
@@ -104,7 +99,6 @@ pub fn holds_corner<P: PtrKey, A: ChainArenaTrait<P, Point> + Drop>(
     false
 }
 
-// Returns whether a corner of a group of blocks is in the triangle.
 fn group_holds_corner<P: PtrKey, A: ChainArenaTrait<P, Point> + Drop>(
     ring: &Polygons<P, Point, A>,
     index: &CornerIndex<P>,
@@ -130,7 +124,6 @@ fn group_holds_corner<P: PtrKey, A: ChainArenaTrait<P, Point> + Drop>(
     false
 }
 
-// Returns whether a corner of a block is in the triangle.
 fn block_holds_corner<P: PtrKey, A: ChainArenaTrait<P, Point> + Drop>(
     ring: &Polygons<P, Point, A>,
     index: &CornerIndex<P>,
@@ -153,8 +146,6 @@ fn block_holds_corner<P: PtrKey, A: ChainArenaTrait<P, Point> + Drop>(
     false
 }
 
-// Returns whether a corner with this point is still in the ring, and in the triangle, which is in
-// the box `around`.
 fn is_there_within<P: PtrKey, A: ChainArenaTrait<P, Point> + Drop>(
     ring: &Polygons<P, Point, A>,
     corner: P,
@@ -171,7 +162,6 @@ fn is_there_within<P: PtrKey, A: ChainArenaTrait<P, Point> + Drop>(
     around.has(point) && is_in_triangle(point, triangle) && is_there(ring, corner, triangle)
 }
 
-// Returns whether a corner is still in the ring, and in the triangle.
 fn is_there<P: PtrKey, A: ChainArenaTrait<P, Point> + Drop>(
     ring: &Polygons<P, Point, A>,
     corner: P,

@@ -1,4 +1,4 @@
-//! The reasons why a polygon is not triangulated.
+//! Errors.
 
 ghost use Rattle.std.specs.Prelude.{codes, Some};
 
@@ -9,45 +9,32 @@ use std::fmt;
 /// The reason why a polygon is not triangulated.
 #[derive(Debug, Clone, Copy, PartialEq, Eq)]
 pub enum TriangulationError {
-    /// The pointer of the first corner is not valid.
     InvalidPointer,
-    /// The polygon has fewer than three corners.
     TooFewCorners,
-    /// No remaining corner is an ear, as if the corners turn clockwise or sides cross.
     NoEar,
-    /// An allocation failed, or the corners exceed the greatest index.
     AllocError,
 }
 
-/// A ring of a polygon.
+/// The outline, or the hole at an index.
 #[derive(Debug, Clone, Copy, PartialEq, Eq)]
 pub enum Ring {
-    /// The outline.
     Outline,
-    /// The hole at this index.
     Hole(usize),
 }
 
 /// The reason why a polygon with holes is not triangulated.
 #[derive(Debug, Clone, Copy, PartialEq, Eq)]
 pub enum PolygonError {
-    /// The ring has fewer than three corners.
     TooFewCorners(Ring),
-    /// The ring has the area 0.
     NoArea(Ring),
-    /// The hole at this index has a common point with the ring.
     Meets(usize, Ring),
-    /// The hole at this index is outside the outline.
     Outside(usize),
-    /// The hole at the first index is in the hole at the second one.
+    /// The first hole is in the second.
     InHole(usize, usize),
-    /// No remaining corner is an ear, as if sides of one ring cross.
     NoEar,
-    /// An allocation failed, or the corners exceed the greatest index.
     AllocError,
 }
 
-// So that `vec.push(x)?` may fail in one function with it. The value is dropped.
 impl<T: Drop> From<AllocFailed<T>> for TriangulationError {
     ghost use Rattle.std.specs.Prelude.{◌≡◌};
     ghost use Rattle.triangulation.specs.declared.errors.TriangulationError.TheVariants as why;

@@ -1,4 +1,4 @@
-//! Holes joined to their outline: one ring of corners with the area that is left.
+//! Joining holes.
 
 ghost use Rattle.std.specs.Prelude.{◌<◌, length, neg_ℤ, All, IfOk, IsTrue, IsFalse};
 ghost use Rattle.triangulation.specs.Polygons.{rings_of, HasCorner, TurnsTo, IsTurnedTo, IsBridged, AreJoined};
@@ -8,14 +8,12 @@ use crate::bridges::{find_bridge, leftmost};
 use crate::points::Point;
 use std::alloc::{AllocError, Global};
 
-// The direction in which the corners of a ring turn.
 #[derive(Clone, Copy, Debug, PartialEq, Eq)]
 pub enum Turn {
     Counterclockwise,
     Clockwise,
 }
 
-// Returns the corners of a ring so that they turn in the given direction.
 pub fn turned_to(alloc: Global, ring: &[Point], turn: Turn) -> Result<Vec<Point>, AllocError>
     ensures { IfOk result (λ turned. IsTurnedTo turn ring.now turned.items) }
 {
@@ -27,7 +25,6 @@ pub fn turned_to(alloc: Global, ring: &[Point], turn: Turn) -> Result<Vec<Point>
     Ok(turned)
 }
 
-// Returns whether a ring of this signed area turns in the given direction.
 fn is_towards(turn: Turn, area: i128) -> bool
     ensures yes { IsTrue result → TurnsTo turn area }
     ensures no { IsFalse result → TurnsTo turn (neg_ℤ area) }
@@ -38,7 +35,6 @@ fn is_towards(turn: Turn, area: i128) -> bool
     }
 }
 
-// Joins a hole to an outline by a bridge, whose ends are corners of both sides.
 fn bridged(alloc: Global, outline: &[Point], hole: &[Point]) -> Result<Vec<Point>, AllocError>
     requires outline { 0 < length outline.now }
     requires hole { 0 < length hole.now }
@@ -55,7 +51,6 @@ fn bridged(alloc: Global, outline: &[Point], hole: &[Point]) -> Result<Vec<Point
     Ok(joined)
 }
 
-// Joins holes to an outline, one after the other.
 pub fn joined(
     alloc: Global,
     outline: Vec<Point>,

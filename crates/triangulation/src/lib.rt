@@ -1,7 +1,4 @@
 //! Triangulation of polygons by ear clipping, exact over integer coordinates.
-//!
-//! `triangulate` reads one of the `Polygons` in any arena of links. Its contract states that the
-//! areas of the triangles add up to the area of the polygon, and that each triangle is an ear.
 #![tactic(auto)]
 
 mod areas;

@@ -1,4 +1,4 @@
-//! Whether rings have common points, and whether points are inside them.
+//! Common points of rings.
 
 ghost use Rattle.std.specs.Prelude.{◌<◌, ◌≤◌, ◌↔◌, length, All, IsTrue, IsFalse};
 ghost use Rattle.triangulation.specs.CornerIndexes.{IsInBox};
@@ -7,9 +7,7 @@ ghost use Rattle.triangulation.specs.Polygons.{AreAround, IsAcross, IsRangeBelow
 use crate::bounds::BoundingBox;
 use crate::points::{Point, is_left, orientation};
 
-// Returns whether an edge of the first ring and an edge of the second one have a common point.
-//
-// `around` is the bounding box of the second ring.
+// `around` is the bounding box of `other`.
 pub fn rings_meet(one: &[Point], other: &[Point], around: &BoundingBox) -> bool
     ensures meet { IsTrue result → RingsMeet one.now other.now }
     ensures found { All (IsInBox around.now) other.now → RingsMeet one.now other.now → IsTrue result }
@@ -29,7 +27,6 @@ pub fn rings_meet(one: &[Point], other: &[Point], around: &BoundingBox) -> bool
     false
 }
 
-// Returns whether the edge from `a` to `b` and an edge of the ring have a common point.
 fn edge_meets(a: Point, b: Point, ring: &[Point]) -> bool
     ensures { IsTrue result ↔ MeetsEdge a b ring.now }
 {
@@ -46,7 +43,6 @@ fn edge_meets(a: Point, b: Point, ring: &[Point]) -> bool
     false
 }
 
-// Returns whether two segments have a common point.
 fn segments_meet(a: Point, b: Point, c: Point, d: Point) -> bool
     ensures { IsTrue result ↔ SegmentsMeet a b c d }
 {
@@ -62,28 +58,24 @@ fn segments_meet(a: Point, b: Point, c: Point, d: Point) -> bool
     is_across(c, d, a, b)
 }
 
-// Returns whether the ranges from `a` to `b` and from `c` to `d` have a common number.
 fn ranges_meet(a: i32, b: i32, c: i32, d: i32) -> bool
     ensures { IsTrue result ↔ RangesMeet a b c d }
 {
     !is_range_below(a, b, c, d) && !is_range_below(c, d, a, b)
 }
 
-// Returns whether the range from `a` to `b` is below that from `c` to `d`.
 fn is_range_below(a: i32, b: i32, c: i32, d: i32) -> bool
     ensures { IsTrue result ↔ IsRangeBelow a b c d }
 {
     a < c && a < d && b < c && b < d
 }
 
-// Returns whether `c` and `d` are not both on one side of the line through `a` and `b`.
 fn is_across(a: Point, b: Point, c: Point, d: Point) -> bool
     ensures { IsTrue result ↔ IsAcross a b c d }
 {
     are_around(orientation(a, b, c), orientation(a, b, d))
 }
 
-// Returns whether two numbers are not both positive and not both negative.
 fn are_around(a: i128, b: i128) -> bool
     ensures { IsTrue result ↔ AreAround a b }
 {
@@ -96,7 +88,6 @@ fn are_around(a: i128, b: i128) -> bool
     }
 }
 
-// Returns whether a point is inside a ring, by the number of edges to its right.
 pub fn is_inside(p: Point, ring: &[Point]) -> bool
     requires { 0 < length ring.now }
     ensures outside { IsFalse result ↔ IsOutside p ring.now }
@@ -111,7 +102,6 @@ pub fn is_inside(p: Point, ring: &[Point]) -> bool
     crossings % 2 == 1
 }
 
-// Returns 1 if the ray from `p` to the right crosses the edge from `a` to `b`, and 0 otherwise.
 fn crossing(p: Point, a: Point, b: Point) -> usize
     ensures number { IsCrossing p a b result }
     ensures small { result ≤ 1 }
@@ -119,7 +109,6 @@ fn crossing(p: Point, a: Point, b: Point) -> usize
     if crosses_ray(p, a, b) { 1 } else { 0 }
 }
 
-// Returns whether the ray from `p` to the right crosses the edge from `a` to `b`.
 fn crosses_ray(p: Point, a: Point, b: Point) -> bool
     ensures crosses { IsTrue result → CrossesRay p a b }
     ensures misses { IsFalse result → CrossesRay p a b → ⊥ }

@@ -1,4 +1,4 @@
-//! Rings of corners, copied from lists and into them.
+//! Rings in arenas and lists.
 
 ghost use Rattle.std.specs.Prelude.{◌≡◌, [], ◌∷◌, map, IfOk, IfErr};
 ghost use Rattle.triangulation.specs.Clippings.{IsRingOf, ReadsOutline};
@@ -12,8 +12,7 @@ use chain_traits::ChainArenaTrait;
 use polygons::Polygons;
 use std::alloc::Global;
 
-// Inserts a ring of corners into an empty arena, and returns the pointer of the first one. The
-// pointers of all are appended to an empty list.
+// Inserts a ring into an empty arena and returns its first pointer.
 pub fn insert_ring<P: PtrKey, A: ChainArenaTrait<P, Point> + Drop>(
     ring: &mut Polygons<P, Point, A>,
     pointers: &mut Vec<P>,
@@ -44,7 +43,6 @@ pub fn insert_ring<P: PtrKey, A: ChainArenaTrait<P, Point> + Drop>(
     Ok(start)
 }
 
-// Returns the points of the polygon of `start`, from `start` on.
 pub fn outline<P: PtrKey, A: ChainArenaTrait<P, Point> + Drop>(
     polygons: &Polygons<P, Point, A>,
     alloc: Global,

@@ -1,4 +1,4 @@
-//! Points with integer coordinates, their orientation, and triangles.
+//! Points and triangles.
 
 ghost use Rattle.std.specs.Prelude.{◌≡◌, ◌↔◌, ◌≤◌, ◌^◌, pos, ◌-ℤ◌, ◌*ℤ◌, ◌<ℤ◌, ◌≤ℤ◌, IsTrue, unsigned_abs};
 ghost use Rattle.polygon_laws.specs.Areas as area;
@@ -19,10 +19,8 @@ pub struct Triangle {
     pub c: Point,
 }
 
-/// Returns twice the signed area of a triangle: positive if `r` is to the left of the line from `p`
-/// to `q`, 0 if it is on that line.
-///
-/// It is exact for all coordinates.
+/// Returns twice the exact signed area of a triangle: positive if `r` is left of the line from `p`
+/// to `q`, 0 if on it.
 pub fn orientation(p: Point, q: Point, r: Point) -> i128
     ensures { result ≡ area.orientation (coordinates p) (coordinates q) (coordinates r) }
 {
@@ -31,7 +29,6 @@ pub fn orientation(p: Point, q: Point, r: Point) -> i128
     first - second
 }
 
-/// Returns whether `r` is to the left of the line from `p` to `q`.
 pub fn is_left(p: Point, q: Point, r: Point) -> bool
     ensures { IsTrue result
         ↔ (pos 0 <ℤ area.orientation (coordinates p) (coordinates q) (coordinates r)) }
@@ -39,7 +36,6 @@ pub fn is_left(p: Point, q: Point, r: Point) -> bool
     orientation(p, q, r) > 0
 }
 
-// Returns the difference of two coordinates.
 fn difference(a: i32, b: i32) -> i128
     ensures value { result ≡ a -ℤ b }
     ensures small { unsigned_abs result ≤ 2 ^ 32 }
@@ -47,7 +43,6 @@ fn difference(a: i32, b: i32) -> i128
     i128::from(a) - i128::from(b)
 }
 
-// Returns the product of two differences.
 fn product(a: i128, b: i128) -> i128
     requires first { unsigned_abs a ≤ 2 ^ 32 }
     requires second { unsigned_abs b ≤ 2 ^ 32 }
@@ -57,7 +52,6 @@ fn product(a: i128, b: i128) -> i128
     a * b
 }
 
-/// Returns whether `r` is to the left of the line from `p` to `q`, or on it.
 pub fn is_left_or_on(p: Point, q: Point, r: Point) -> bool
     ensures { IsTrue result
         ↔ (pos 0 ≤ℤ area.orientation (coordinates p) (coordinates q) (coordinates r)) }
@@ -65,7 +59,6 @@ pub fn is_left_or_on(p: Point, q: Point, r: Point) -> bool
     orientation(p, q, r) >= 0
 }
 
-/// Returns whether a point is in a triangle or on its sides, and is none of its corners.
 pub fn is_in_triangle(p: Point, t: Triangle) -> bool
     ensures { IsTrue result ↔ IsInTriangle t p }
 {

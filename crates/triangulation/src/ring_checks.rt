@@ -1,4 +1,4 @@
-//! The checks of a polygon before it is triangulated.
+//! Checks of polygons.
 
 ghost use Rattle.std.specs.Prelude.{◌<◌, length, All, AllPairs, List, OnOk, IfErr};
 ghost use Rattle.triangulation.specs.Polygons.{rings_of, HasCorner, HasArea, IsHoleIn, AreDisjoint, IsDisjointFromEarlier, IsReason, IsRingFault};
@@ -10,7 +10,6 @@ use crate::errors::{PolygonError, Ring};
 use crate::meetings::{is_inside, rings_meet};
 use crate::points::Point;
 
-// Checks that the outline is a ring with an area.
 pub fn check_outline(outline: &[Point]) -> Result<(), PolygonError>
     ensures area { OnOk result (HasArea outline.now) }
     ensures reason { (holes : List (List Point)) → IfErr result (IsReason outline.now holes) }
@@ -18,7 +17,6 @@ pub fn check_outline(outline: &[Point]) -> Result<(), PolygonError>
     check_ring(outline, Ring::Outline)
 }
 
-// Checks that each hole is a ring with an area.
 pub fn check_holes(outline: &[Point], holes: &[Vec<Point>]) -> Result<(), PolygonError>
     ensures corners { OnOk result (All HasCorner holes.now) }
     ensures areas { OnOk result (All HasArea (rings_of holes.now)) }
@@ -33,8 +31,6 @@ pub fn check_holes(outline: &[Point], holes: &[Vec<Point>]) -> Result<(), Polygo
     Ok(())
 }
 
-// Checks that each hole is inside the outline, that none is in another one, and that rings have no
-// common points.
 pub fn check_places(outline: &[Point], holes: &[Vec<Point>]) -> Result<(), PolygonError>
     requires outline { 0 < length outline.now }
     requires holes { All HasCorner holes.now }
@@ -58,7 +54,6 @@ pub fn check_places(outline: &[Point], holes: &[Vec<Point>]) -> Result<(), Polyg
     Ok(())
 }
 
-// Checks that the hole at `i` and each hole before it are disjoint.
 fn check_pairs(holes: &[Vec<Point>], i: usize) -> Result<(), PolygonError>
     requires index { i < length holes.now }
     requires corners { All HasCorner holes.now }
@@ -82,7 +77,6 @@ fn check_pairs(holes: &[Vec<Point>], i: usize) -> Result<(), PolygonError>
     Ok(())
 }
 
-// Checks that a ring has three corners or more, and an area.
 fn check_ring(corners: &[Point], ring: Ring) -> Result<(), PolygonError>
     ensures area { OnOk result (HasArea corners.now) }
     ensures reason { IfErr result (IsRingFault corners.now ring) }

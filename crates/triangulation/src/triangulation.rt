@@ -1,4 +1,4 @@
-//! Triangulation of a polygon in an arena, or of a list of corners.
+//! Polygons without holes.
 
 ghost use Rattle.triangulation.specs.Triangulations.{TriangulatesPoints};
 ghost use Rattle.triangulation.specs.Clippings.{Triangulates};
@@ -13,20 +13,18 @@ use chain_traits::ChainArenaTrait;
 use polygons::Polygons;
 use std::alloc::Global;
 
-/// Triangulates a polygon by ear clipping, and returns the triangles.
+/// Triangulates the polygon of the corner `start` by clipping ears of a copy.
 ///
-/// `start` is any of its corners. The polygons are only read: the ears are clipped from a copy.
-///
-/// The corners must turn counterclockwise. Each is a corner of some triangle, also if it is on the
-/// line through its neighbors. So `n` corners have `n - 2` triangles, whose areas add up to that of
-/// the polygon. When a triangle is clipped, no remaining corner is in it.
+/// The corners must turn counterclockwise. `n` corners have `n - 2` triangles, whose areas add up
+/// to the polygon's. Each is a corner of some triangle, even if collinear. No remaining corner is
+/// in a clipped triangle.
 ///
 /// # Errors
 ///
 /// - `InvalidPointer`: `start` is not valid.
-/// - `TooFewCorners`: the polygon has fewer than three corners.
+/// - `TooFewCorners`: fewer than three corners.
 /// - `NoEar`: no remaining corner is an ear, as if the corners turn clockwise or sides cross.
-/// - `AllocError`: an allocation failed, or the copy exceeds the greatest index.
+/// - `AllocError`: an allocation failed, or the greatest index is reached.
 pub fn triangulate<P: PtrKey, A: ChainArenaTrait<P, Point> + Drop>(
     polygons: &Polygons<P, Point, A>,
     alloc: Global,
@@ -44,9 +42,9 @@ pub fn triangulate<P: PtrKey, A: ChainArenaTrait<P, Point> + Drop>(
 ///
 /// # Errors
 ///
-/// - `TooFewCorners`: there are fewer than three corners.
-/// - `NoEar`: no remaining corner is an ear, as if the corners turn clockwise or sides cross.
-/// - `AllocError`: an allocation failed, or the corners exceed the greatest index.
+/// - `TooFewCorners`: fewer than three corners.
+/// - `NoEar`: no remaining corner is an ear.
+/// - `AllocError`: an allocation failed, or the greatest index is reached.
 pub fn triangulate_points<P: PtrKey, A: ChainArenaTrait<P, Point> + Drop>(
     alloc: Global,
     corners: &[Point],

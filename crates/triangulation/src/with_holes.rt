@@ -1,4 +1,4 @@
-//! Triangulation of polygons with holes.
+//! Polygons with holes.
 
 ghost use Rattle.std.specs.Prelude.{◌≤◌, length, All, IfOk};
 ghost use Rattle.triangulation.specs.Polygons.{rings_of, HasCorner, IsJoinedRing, TriangulatesPolygon};
@@ -13,21 +13,20 @@ use arena_ptr::PtrKey;
 use chain_traits::ChainArenaTrait;
 use std::alloc::{AllocError, Global};
 
-/// Triangulates a polygon with holes by ear clipping, and returns the triangles.
+/// Triangulates a polygon with holes by ear clipping.
 ///
-/// The rings may turn either way. A polygon of `n` corners, those of its holes included, with `h`
-/// holes has `n + 2 * h - 2` triangles, whose areas add up to that of the outline without the
-/// holes. The triangles turn counterclockwise.
+/// Rings may turn either way. With `n` corners in all and `h` holes, `n + 2 * h - 2`
+/// counterclockwise triangles have the area of the outline without the holes.
 ///
 /// # Errors
 ///
 /// - `TooFewCorners`: a ring has fewer than three corners.
 /// - `NoArea`: a ring has the area 0.
-/// - `Meets`: a hole has a common point with the outline or with another hole.
+/// - `Meets`: a hole has a common point with another ring.
 /// - `Outside`: a hole is outside the outline.
-/// - `InHole`: a hole is in another one.
-/// - `NoEar`: no remaining corner is an ear, as if sides of one ring cross.
-/// - `AllocError`: an allocation failed, or the corners exceed the greatest index.
+/// - `InHole`: a hole is in another.
+/// - `NoEar`: no remaining corner is an ear, as if sides cross.
+/// - `AllocError`: an allocation failed, or the greatest index is reached.
 pub fn triangulate_polygon<P: PtrKey, A: ChainArenaTrait<P, Point> + Drop>(
     alloc: Global,
     outline: &[Point],
@@ -49,7 +48,6 @@ pub fn triangulate_polygon<P: PtrKey, A: ChainArenaTrait<P, Point> + Drop>(
     }
 }
 
-// Returns one ring that goes along the outline, the holes, and both sides of a bridge to each hole.
 fn joined_ring(
     alloc: Global,
     outline: &[Point],

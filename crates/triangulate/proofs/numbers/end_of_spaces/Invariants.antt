@@ -1,4 +1,3 @@
--- The bytes so far are spaces.
 use Rattle.std.proofs.Common.{◌≤◌, ◌-◌, length}
 use Rattle.triangulate.specs.RingTexts.{AreSpaces}
 use Rattle.triangulate.proofs.numbers.end_of_spaces.Given as goal

@@ -1,4 +1,3 @@
--- None of the bytes so far is a space.
 use Rattle.triangulate.specs.RingTexts.{AreNoSpaces}
 use Rattle.triangulate.proofs.numbers.end_of_word.Given as goal
 

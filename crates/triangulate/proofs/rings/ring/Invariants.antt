@@ -1,4 +1,4 @@
--- The numbers of the line up to here are the coordinates of the points so far.
+-- The numbers so far are coordinates of the points so far.
 use Rattle.std.proofs.Common.{◌≤◌, ◌-◌, length}
 use Rattle.triangulate.specs.RingTexts.{AreNumbersAt, coordinates_of}
 use Rattle.triangulate.proofs.rings.ring.Given as goal

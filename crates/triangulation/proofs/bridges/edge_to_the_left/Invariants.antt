@@ -1,4 +1,3 @@
--- The index is one of the outline.
 use Rattle.std.proofs.Common.{◌<◌, length}
 use Rattle.std.specs.Prelude.{IfSome}
 use Rattle.triangulation.proofs.bridges.edge_to_the_left.Given as goal

@@ -1,4 +1,3 @@
--- The index is one of the ring.
 use Rattle.std.proofs.Common.{◌<◌, length}
 use Rattle.triangulation.proofs.bridges.leftmost.Given as goal
 

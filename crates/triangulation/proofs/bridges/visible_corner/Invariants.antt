@@ -1,4 +1,3 @@
--- The index is one of the outline.
 use Rattle.std.proofs.Common.{◌<◌, length}
 use Rattle.triangulation.proofs.bridges.visible_corner.Given as goal
 

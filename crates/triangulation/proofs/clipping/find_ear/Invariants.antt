@@ -1,5 +1,4 @@
--- Each list of the ring can be turned to the present corner, and no list before it begins with an
--- ear.
+-- Each list of the ring can be turned to the present corner, and none before begins with an ear.
 use Rattle.std.proofs.Common.{◌<◌, ℕ, List, ◌++◌, take, drop, length}
 use Rattle.chain_lists.specs.Lists.{Item}
 use Rattle.triangulation.specs.declared.points.Point.{Point}

@@ -1,4 +1,3 @@
--- The blocks so far have boxes.
 use Rattle.std.proofs.Common.{◌≡◌, length}
 use Rattle.triangulation.specs.CornerIndexes.{BoxHasAllOf}
 use Rattle.triangulation.proofs.CornerIndexLemmas.{AreBoxesBelow}

@@ -1,4 +1,4 @@
--- The path along the edges of the ring, none of which meets the edge so far.
+-- No edge of the ring so far meets the edge.
 use Rattle.triangulation.specs.Polygons.{SegmentsMeet}
 use Rattle.triangulation.proofs.RingPathLemmas.{IsPathTo}
 use Rattle.triangulation.proofs.MeetingLemmas.{NoEdgeBefore}

@@ -1,4 +1,4 @@
--- The path along the edges of the ring, none of which meets the other ring so far.
+-- No edge so far meets the other ring.
 use Rattle.std.specs.Prelude.{All}
 use Rattle.triangulation.specs.CornerIndexes.{IsInBox}
 use Rattle.triangulation.specs.Polygons.{MeetsEdge}

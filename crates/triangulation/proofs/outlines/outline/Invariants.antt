@@ -1,4 +1,4 @@
--- The corners before the present one have been read.
+-- The corners so far have been read.
 use Rattle.std.proofs.Common.{List}
 use Rattle.chain_lists.specs.Lists.{Item}
 use Rattle.triangulation.specs.declared.points.Point.{Point}

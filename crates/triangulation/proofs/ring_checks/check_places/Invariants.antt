@@ -1,4 +1,4 @@
--- The holes so far are inside the outline, and each two of them are disjoint.
+-- The holes so far are in the outline and disjoint.
 use Rattle.std.proofs.Common.{ℕ, ◌<◌, take}
 use Rattle.std.specs.Prelude.{All}
 use Rattle.triangulation.specs.Polygons.{rings_of, IsHoleIn, IsDisjointFromEarlier}

@@ -1,4 +1,3 @@
--- The box has all so far.
 use Rattle.std.proofs.Common.{take}
 use Rattle.std.specs.Prelude.{All}
 use Rattle.triangulation.specs.CornerIndexes.{BoxHasAllOf}
