@@ -1,4 +1,4 @@
--- A compression of a chain arena: its counter is set, and its links are moved to the front.
+-- A compression of a chain arena.
 use Rattle.std.proofs.Common.{◌≡◌, ℕ, ◌+◌, ◌*◌, ◌≤◌, length, map, Bool, refl, ap, sym, ◌∙◌, subst}
 use Rattle.std.specs.Option.{option_map}
 use Rattle.std.specs.Fn.{Mut}

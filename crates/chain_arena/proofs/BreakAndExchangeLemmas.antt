@@ -1,4 +1,4 @@
--- Effects of cuts and exchanges on a chain arena, from its state.
+-- Effects of cuts and exchanges.
 use Rattle.std.proofs.Common.{◌≡◌, ℕ, Option, None, Some, ap, sym, ◌∙◌, subst, IfSome}
 use Rattle.chain_laws.specs.Chains.{LinkMap, IsWellLinked, HasLink, next_of}
 use Rattle.chain_laws.specs.Neighbors.{AreNeighbors}

@@ -1,4 +1,4 @@
--- A canonical compression of a chain arena: its counter is set, and its links are arranged.
+-- A canonical compression of a chain arena.
 use Rattle.std.proofs.Common.{◌≡◌, ℕ, suc, ◌+◌, Bool, List, [], ◌∷◌, length, map, Option, Some, refl, ap, sym, ◌∙◌, subst, arith}
 use Rattle.std.specs.Option.{option_map}
 use Rattle.std.specs.List.{range_with_len}

@@ -104,7 +104,6 @@ module _ {Gen T : Type 0} where
       by (Some e) stored = walk_is_taken (link_map a) i (walk_left a i) (walk_left-walk a i e agrees stored)
 
 module _ {P Gen K T : Type 0} (key : P → ℕ × Gen) (number : K → Option ℕ) (following : Gen → Gen) (wraps : Gen → Bool) where
-  -- A removal by index is a step of a drain.
   module _ (old new : Arena Gen (LinkView T)) (at i next : ℕ) (taken : InvalidationResult (Gen × RawLink K T)) (same : i ≡ at) (agrees : IsWellLinked (link_map old))
       (responded : option_map (on_value (link_view number)) (value_within taken) ≡ link_at (entry_at (values_of old)) (link_map old) i) where
     found : (o : Option (Gen × RawLink K T)) → value_within taken ≡ o → entry_at old at ≡ option_map (on_value (link_view number)) o

@@ -1,4 +1,4 @@
--- The heads of all chains: marks, the head of a walk, and the loop over the links.
+-- The heads of all chains.
 use Rattle.std.proofs.Common.{◌≡◌, ◌≢◌, ◌↔◌, ℕ, zero, suc, ◌+◌, ◌<◌, ◌≤◌, ◌⊎◌, inl, inr, ⊎_elim, Bool, true, false, List, [], ◌∷◌, ◌++◌, length, map, replicate, Option, None, Some, refl, ap, sym, ◌∙◌, subst, arith}
 use Rattle.std.specs.Prelude.{cond, is_none, is_some, if◌then◌else◌, slice_index_or, slice_set, All}
 use Rattle.std.specs.List.{AllZip, AllByRecursion}
@@ -174,7 +174,7 @@ module _ {Gen T : Type 0} (a : Arena Gen (LinkView T)) where
         each [] low = tt
         each (e ∷ es) low = (low e.0 (inl refl), each es (λ j m. low j (inr m)))
 
--- What is left of a walk marks the rest of its links, and finds the head among them.
+-- The rest of a walk marks its links, and finds the head among them.
 pub record IsMarking {Gen T : Type 0} (old : List Bool) (start : (ℕ × Gen) × Bool) (all : List (ℕ × (Gen × LinkView T))) (marks : List Bool) (head : (ℕ × Gen) × Bool) (links : List (ℕ × (Gen × LinkView T))) : Type 0 where
   pub marks_are : with_marks marks (map (λ e. e.0) links) ≡ with_marks old (map (λ e. e.0) all)
   pub head_is : head_among head links ≡ head_among start all
@@ -239,8 +239,8 @@ marking_ends key p all links old new head m none =
     marks_chain key p all old new head (ap (λ l. with_marks new (map (λ e. e.0) l)) (sym none) ∙ m.marks_are) (ap (head_among (head_view key head)) (sym none) ∙ m.head_is)
 
 module _ {P Gen T : Type 0} (key : P → ℕ × Gen) (a : Arena Gen (LinkView T)) where
-  -- The entries are those from an index on. The chains that are left have the unmarked links, all
-  -- of them from that index on, and with their heads the list is complete.
+  -- The entries from an index on; the chains left have the unmarked links, all from that index on,
+  -- and complete the list.
   pub record IsFindingHeads (es : List ((ℕ × Gen) × LinkView T)) (marks : List Bool) (heads : List (ChainHead P)) : Type 0 where
     pub from : ℕ
     pub entries_ascend : AscendsFrom from es
@@ -333,7 +333,6 @@ module _ {P Gen T : Type 0} (key : P → ℕ × Gen) (a : Arena Gen (LinkView T)
         gone : IsMember (all_items l.rest) i → ⊥
         gone m = let none = (l.unmarked i has_link).1 m in absurd (let is = marked in cc)
 
-    -- The chain of the first entry is the next in order.
     module _ (head : ChainHead P) (new : List Bool) (marks_new : MarksChain key a i marks head new) (c : Chain) (cs : List Chain) (rest_is : l.rest ≡ c ∷ cs) (in_rest : IsMember (items c ++ all_items cs) i) where
       chain : IsChain (link_map a) c
       chain = l.each c (subst (λ (ds : List Chain). HasChain ds c) (sym rest_is) (inl refl))

@@ -1,4 +1,4 @@
--- The chain that is moved to another arena: the part that is moved, and the part that is left.
+-- The moved and the remaining part of a chain that is moved.
 use Rattle.std.proofs.Common.{◌≡◌, ◌≢◌, ℕ, Bool, true, false, List, [], ◌∷◌, ◌++◌, reverse, map, Option, None, Some, inl, inr, refl, sym, ap, ◌∙◌, subst, append_assoc, append-nil}
 use Rattle.std.specs.Prelude.{IsTrue, ◌↔◌}
 use Rattle.std.proofs.lemmas.List.{reverse-append}
@@ -25,9 +25,8 @@ moved_indexes moves = map (λ m. m.1) moves
 abbrev pub IsLinearOrEmpty : LinkMap → List ℕ → Type 0
 IsLinearOrEmpty links ys = AreDistinct ys × AreLinked links None ys None
 
--- Some links of a chain are moved, given by old and new index in walk order. The second list has
--- their new indexes in the order of the chain, the third one the links that are left. If true, all
--- links from the first one to the end are moved.
+-- Links moved, by old and new index in walk order; their new indexes in the order of the chain; and
+-- the links left. If true, all links from the first to the end are moved.
 pub data IsPartlyMoved (old left new : LinkMap) : Bool → List (ℕ × ℕ) → List ℕ → List ℕ → Type 0 where
   ahead_linear : (before : List ℕ) (moves : List (ℕ × ℕ)) (x : ℕ) (after : List ℕ) → IsChain old (linear (before ++ (old_indexes moves ++ x ∷ after)))
       → IsChain left (linear (before ++ x ∷ after)) → IsLinearOrEmpty new (moved_indexes moves) → IsPartlyMoved old left new false moves (moved_indexes moves) (x ∷ after ++ reverse before)
@@ -122,7 +121,7 @@ turned_back old left new (b ∷ bs) back i ahead chain still run =
     (subst (λ (zs : List ℕ). IsChain left (linear zs)) l.2 (still (λ none. cc)))
     run)
 
--- The next move: where the new link comes, and what is under way after it.
+-- The next move.
 pub record IsNextMove (old left new : LinkMap) (closes is_end is_back : Bool) (moves : List (ℕ × ℕ)) (ys : List ℕ) (x : ℕ) (rest : List ℕ) : Type 0 where
   pub position : (q : ℕ) → IsInsertPosition new q (link_before_moved closes is_back ys q) (link_after_moved closes is_back ys q)
   pub under_way : (q : ℕ) → new q ≡ None

@@ -1,4 +1,4 @@
--- The loop of a chain's transfer: its beginning, one more link, and its end.
+-- The loop of a chain's transfer.
 use Rattle.std.proofs.Common.{◌≡◌, ℕ, ◌+◌, ◌≤◌, ◌<◌, ◌⊎◌, inl, inr, ⊎_elim, Bool, true, false, List, [], ◌∷◌, ◌++◌, length, map, reverse, Option, None, Some, refl, sym, ap, ap₂, ◌∙◌, subst, append_assoc, append-nil, length-append, arith}
 use Rattle.std.specs.Prelude.{All, IsTrue, ◌↔◌, slice_get}
 use Rattle.std.specs.Option.{option_map}
@@ -318,7 +318,6 @@ module _ {Q P G Gen I U T F : Type 0} (key : Q → ℕ × G) (new_key : P → �
             rest = c.rest;
           }
 
--- The target has grown before the transfer.
 module _ {Gen T : Type 0} (old grown new : Arena Gen (LinkView T)) where
   pub reaches_grown : (may_reach : ℕ → Option ℕ → ℕ → ℕ → Type 0) (greatest n : ℕ) → new.capacity ≡ grown.capacity → new.stack_capacity ≡ grown.stack_capacity → new.maximum ≡ grown.maximum
       → ReachesCapacity may_reach greatest n old grown → ReachesCapacity may_reach greatest n old new

@@ -1,5 +1,4 @@
--- But for memory and growth, a state and calls determine the replies and, but for touches, the
--- state after them.
+-- What a state and calls determine.
 use Rattle.std.proofs.Common.{◌≡◌, ◌⊎◌, inl, inr, ⊎_elim, ℕ, ◌+◌, ◌<◌, ◌≤◌, Bool, List, [], ◌∷◌, length, min, Option, None, Some, Result, Ok, Err, refl, sym, ap, ap₂, ◌∙◌, subst, arith}
 use Rattle.std.specs.Prelude.{is_some, IfSome, IfNone, OnSome}
 use Rattle.std.proofs.lemmas.Bool.{false≢true}

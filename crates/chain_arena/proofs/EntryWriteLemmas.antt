@@ -67,7 +67,6 @@ module _ {Gen K T : Type 0} (number : K → Option ℕ) (following : Gen → Gen
   renewed-view_after = ap (λ (x : Arena Gen (LinkView T)). view_of (values_of x)) renewed-state
       ∙ (ap (λ (x : Arena Gen T). view_of x) (with_each-invalidate_at link_value following (links_view number a) n) ∙ viewed_renewed following (values_of (links_view number a)) n)
 
--- A new generation for a link is one for its entry.
 module _ {P I Gen W T : Type 0} (pointers : PointerKind P I Gen W) (a b : Arena Gen (RawLink (PackedOption I W) T)) (p : P) where
   abbrev viewed : Arena Gen (RawLink (PackedOption I W) T) → Arena Gen (LinkView T)
   viewed = links_view pointers.packed
@@ -100,7 +99,6 @@ module _ {P I Gen W T : Type 0} (pointers : PointerKind P I Gen W) (a b : Arena 
     at_rest = subst (λ c. AreAtRest pointers.packed c.slots) (sym is) (renewed_at_rest pointers.packed a.slots (pointers.key p).0 (pointers.following a.counter) holds.at_rest);
   }
 
--- The arena after a clear.
 module _ {Gen K T : Type 0} (number : K → Option ℕ) (following : Gen → Gen) (a b : Arena Gen (RawLink K T)) (is : b ≡ arena_after_clear following a) where
   pub cleared-view_after : view_of (values_of (links_view number b)) ≡ view_after_clear following (view_of (values_of (links_view number a)))
   cleared-view_after = ap (λ (x : Arena Gen (RawLink K T)). view_of (values_of (links_view number x))) is

@@ -1,4 +1,4 @@
--- Effects of an insertion on a chain arena, from its state.
+-- Effects of insertions.
 use Rattle.std.proofs.Common.{◌≡◌, ℕ, ◌+◌, length, Option, None, Some, refl, ap, sym, ◌∙◌, subst}
 use Rattle.chain_laws.specs.Chains.{LinkMap, IsWellLinked}
 use Rattle.chain_laws.specs.Joins.{with_lone, with_neighbors}

@@ -27,7 +27,6 @@ use Rattle.chain_compaction.proofs.ValueViewLemmas.{entry_views-all, held_entrie
 abbrev made_as : {P U T W X : Type 0} → (U → W) → (T → X) → Copied P U T → Copied P W X
 made_as before after c = record { pointer = c.pointer; value = before c.value; returned = after c.returned }
 
--- A part of what makes the values, with views of the values before and after.
 module _ {V F P U W T X : Type 0} (makes : V → P → U → T → V → Type 0) (others : F → P → W → X → F → Type 0) (see : V → F) (before : U → W) (after : T → X)
     (step : (v : V) (p : P) (u : U) (t : T) (next : V) → makes v p u t next → others (see v) p (before u) (after t) (see next)) where
   module _ {Gen : Type 0} (key : P → ℕ × Gen) where
@@ -49,7 +48,6 @@ module _ {V F P U W T X : Type 0} (makes : V → P → U → T → V → Type 0)
       after = viewed_after c.made ∙ ap (map (on_value after)) c.after;
     }
 
--- Each value made has the view of its source.
 module _ {V P U T Z Gen : Type 0} (makes : V → P → U → T → V → Type 0) (f : U → Z) (g : T → Z)
     (same : (v : V) (p : P) (u : U) (t : T) (next : V) → makes v p u t next → g t ≡ f u) (key : P → ℕ × Gen) where
   made_alike : (made : List (Copied P U T)) (v last : V) → FoldsTo (Makes makes) v made last
@@ -98,7 +96,6 @@ module _ {P K U Gen : Type 0} (number : K → Option ℕ) (may_refuse : P → Ra
     refusable = (has.value, refl, has.refusable);
   }
 
--- An arena without links is well linked.
 module _ (Gen T : Type 0) where
   nothing_at : (i : ℕ) → option_map (interlinks_of {Gen = Gen} {T = T}) (slot_at [] i) ≡ None
   nothing_at zero = refl
@@ -136,7 +133,6 @@ body_destination number l = number l.destination
 abbrev no_destination : {K T : Type 0} → RawLink K T → Option ℕ
 no_destination l = None
 
--- The links of a copy are made from the source's links.
 module _ {V F P K U T Gen : Type 0} (number : K → Option ℕ) (makes : F → P → LinkView U → T → F → Type 0) (see : V → F) (key : P → ℕ × Gen) (f last : V) (source : Arena Gen (RawLink K U)) (old new : Arena Gen (RawLink K T))
     (made : CopiesBy (λ v p u t w. MakesLink number makes (see v) p u t (see w)) key f (entries source) (entries new) last) (has : HasSlotsOf source old new) where
   pub interlinks_copied : link_map (links_view number new) ≡ link_map (links_view number source)
@@ -176,7 +172,6 @@ module _ {V F P K U T Gen : Type 0} (number : K → Option ℕ) (makes : F → P
           let pair : on_value (body_destination number) x ≡ on_value no_destination y = let h = same in cc in
           ap (λ (p : Gen × Option ℕ). p.1) pair
 
--- A copy made from links is one made from the links as contracts see them.
 module _ {F P K U T Gen : Type 0} (number : K → Option ℕ) (makes : F → P → RawLink K U → T → F → Type 0) (key : P → ℕ × Gen) (f last : F) (source : Arena Gen (RawLink K U)) (old new : ArenaView Gen T) where
   as_it_is : (es : List ((ℕ × Gen) × T)) → map (on_value (λ t. t)) es ≡ es
   as_it_is [] = refl
@@ -210,7 +205,6 @@ pub called_copy : {V F P K U T Gen : Type 0} (g : Mut F (P × (Bor (RawLink K U)
 called_copy g see value_from key f last source old new copy =
     copy_by (MakesOf value_from (λ x p u t y. IsCopyCall g (see x) p u t (see y))) (MakesOf value_from (IsCopyCall g)) see (called_of g see value_from) key f last source old new copy
 
--- The links of a clone have the view of the source's links.
 module _ {F P K T Gen : Type 0} (number : K → Option ℕ) (is_clone : T → T → Type 0) (equal : (x y : T) → is_clone x y → y ≡ x) (key : P → ℕ × Gen) (f last : F) (source : Arena Gen (RawLink K T)) (old new : Arena Gen (RawLink K T))
     (made : CopiesBy (MakesLink number (λ (_ : F) (_ : P) u t (_ : F). is_clone u.value t)) key f (entries source) (entries new) last) (has : HasSlotsOf source old new) where
   pub links_cloned : (links_view number new).slots ≡ (links_view number source).slots
@@ -238,7 +232,6 @@ none_before : {X Y : Type 0} (f : X → Y) (xs : List X) → map f xs ≡ [] →
 none_before f [] none = refl
 none_before f (x ∷ xs) none = absurd (let h = none in cc)
 
--- Without slots the capacity suffices, and no value is refused.
 module _ {P K U Gen : Type 0} (number : K → Option ℕ) (may_refuse : P → RawLink K U → Type 0) (key : P → ℕ × Gen) (source : Arena Gen (RawLink K U)) where
   none_among : {X : Type 0} (before after : List X) (x : X) → [] ≡ before ++ x ∷ after → ⊥
   none_among [] after x same = cc

@@ -156,7 +156,6 @@ is_behind most i next is within = by (leb (i + 1) most) refl
     by false beyond = inl (is ∙ omega (arith, leb-false (i + 1) most beyond, within))
 
 module _ {P Gen T : Type 0} (key : P → ℕ × Gen) (following : Gen → Gen) (wraps : Gen → Bool) where
-  -- The removal of the first remaining link is a step.
   module _ (old new : Arena Gen (LinkView T)) (at next : ℕ) (p : P) (first : Some (key p) ≡ first_key (entries_left old at)) (taken : Option T)
       (value : taken ≡ option_map (λ (e : Gen × T). e.1) (entry_at (values_of old) (key p).0)) where
     value_is : taken ≡ Some (first_left old at (key p) first).0

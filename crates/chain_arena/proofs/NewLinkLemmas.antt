@@ -1,4 +1,4 @@
--- The links beside a new one of a kind, and the insertion between them.
+-- The links beside a new one, and its insertion.
 use Rattle.std.proofs.Common.{◌≡◌, ◌↔◌, inl, ℕ, ◌+◌, ◌<◌, ◌≤◌, Option, None, Some, Result, Ok, Err, OnErr, refl, sym, ap, ap₂, ◌∙◌, subst, subst₂, arith}
 use Rattle.std.specs.Prelude.{is_some, IsSome, IsSomeAnd, IfSome}
 use Rattle.std.specs.Borrow.{Bor}
@@ -45,7 +45,6 @@ returns_beside number may may' u v u' v' (Some beside) is same before after =
     let given = same.0 (is.some.0 refl) in
     record { some = (λ _. given, λ _. refl); beside = record { before = is.beside.before ∙ before given; after = is.beside.after ∙ after given } }
 
--- A link that may be at index i, where `given` states that there is one that was meant.
 module _ {Gen K T : Type 0} (packed : K → Option ℕ) (a : Links Gen T) (i : ℕ) (given : Type 0) where
   abbrev pub Found : Option (Bor (RawLink K T)) → Type 0
   Found r = (IsSome r ↔ given) × IfSome r (λ link. link_map a i ≡ Some (interlinks_in (link_view packed link.now)))
@@ -72,7 +71,6 @@ module _ {Gen K T : Type 0} (packed : K → Option ℕ) (a : Links Gen T) (i : �
   prev_is o None found = (λ h. absurd h, λ h. absurd (false≢true (found.0.1 h.0)))
   prev_is o (Some link) found = (λ h. (found.0.0 refl, ap prev_in found.1 ∙ h), λ h. sym (ap prev_in found.1) ∙ h.1)
 
--- The link of a pointer, and the link at an index.
 module _ {Gen K T : Type 0} (packed : K → Option ℕ) (a : Arena Gen (RawLink K T)) where
   pub found_ptr : (p : ℕ × Gen) (r : Option (Bor (RawLink K T))) → IsSome r ↔ IsValid (entry_at a) p → IfSome r (λ link. entry_at a p.0 ≡ Some (p.1, link.now)) → Found packed (links_view packed a) p.0 (IsValid (entry (links_view packed a)) p) r
   found_ptr p None some value = ((λ h. absurd (false≢true h), λ valid. some.1 ((same_valid packed a p).1 valid)), tt)

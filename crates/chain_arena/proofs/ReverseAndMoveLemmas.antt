@@ -1,4 +1,4 @@
--- Effects of reversals, and moves of links and runs, on a chain arena, from its state.
+-- Effects of reversals and moves.
 use Rattle.std.proofs.Common.{◌≡◌, ◌≢◌, ◌↔◌, ℕ, Option, None, Some, refl, ap, sym, ◌∙◌, subst}
 use Rattle.std.specs.Prelude.{is_some}
 use Rattle.chain_laws.specs.Chains.{LinkMap, Interlinks, IsWellLinked, HasLink}
@@ -32,7 +32,6 @@ alike left right i same = by (left i) refl (right i) refl
     by (Some l) is (Some m) was = ap is_some is ∙ sym (ap is_some was)
 
 module _ {Gen T : Type 0} (a b : Arena Gen (LinkView T)) where
-  -- What is known of new interlinks for the links of the arena.
   module _ (interlinks : LinkMap) (fits : FitsLinks interlinks a) (is : b ≡ with_link_map a interlinks) where
     reports : link_map b ≡ interlinks
     reports = ap (λ (y : Arena Gen (LinkView T)). link_map y) is ∙ link_map-with_link_map a interlinks fits

@@ -118,7 +118,6 @@ module _ {P I Gen W T : Type 0} (pointers : PointerKind P I Gen W) (reset : Bool
       (renaming_is_determined _ (link_map old) (link_map a) (link_map b) (subst (λ (is : List ℕ). IsRenaming (place_in is) (link_map old) (link_map a)) order x.renamed) y.renamed) x.slots y.slots counter
       (x.capacity ∙ sym y.capacity) (one.1 ∙ sym two.1) (x.maximum ∙ sym y.maximum)
 
--- Each step stays one with the touches set to n before and after.
 module _ (n : ℕ) where
   abbrev pub touch : {Gen T : Type 0} → Links Gen T → Links Gen T
   touch a = record a { touched = n }

@@ -14,7 +14,6 @@ use Rattle.chain_links.specs.ChainArena.{LinkView, value_view}
 use Rattle.chain_arena.specs.Effects.{IsEmptyWithCapacity, SucceedsOrRefuses}
 use Rattle.chain_arena.specs.Transfers.{IsTransfer}
 
--- A growth to capacity for n links, where the greatest index is tested before the maximum.
 module _ {Gen T : Type 0} (may_reach : ℕ → Option ℕ → ℕ → ℕ → Type 0) (greatest n : ℕ) where
   abbrev Grows : Arena Gen (LinkView T) → Arena Gen (LinkView T) → Result (Unit {0}) ReallocationError → Type 0
   Grows old new r = SucceedsOrRefuses n greatest old.maximum (ReachesCapacity may_reach greatest n old new) (new ≡ old) r
@@ -43,7 +42,6 @@ pub refused_alike : {S K : Type 0} (greatest n m : ℕ) (maximum : Option ℕ) (
 refused_alike greatest n m maximum refused.BeyondMaxCapacity same kept outcome = (subst (λ (k : ℕ). k ≤ greatest) same outcome.0, subst (IsBeyond maximum) same outcome.1, kept outcome.2)
 refused_alike greatest n m maximum refused.AllocError same kept outcome = (subst (λ (k : ℕ). k ≤ greatest → IsBeyond maximum k → ⊥) same outcome.0, kept outcome.1)
 
--- Before the transfer the arena is as after a growth, a clear and a new counter.
 module _ {Gen T : Type 0} (following : Gen → Gen) (generation : Gen) (old grown clear set new : Arena Gen (LinkView T)) (is_grown : grown ≡ with_capacity_of old grown)
     (is_clear : clear ≡ arena_after_clear following grown) (is_set : set ≡ with_counter clear generation) where
   emptied : set ≡ with_counter (arena_after_clear following (with_capacity_of old grown)) generation

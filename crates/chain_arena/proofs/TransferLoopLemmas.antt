@@ -1,4 +1,4 @@
--- The loop of a transfer: its beginning, its two steps and its end.
+-- The loop of a transfer.
 use Rattle.std.proofs.Common.{◌≡◌, ◌≢◌, ℕ, ◌+◌, ◌≤◌, ◌<◌, inl, Bool, true, List, [], ◌∷◌, ◌++◌, length, map, Option, None, Some, refl, sym, ap, ap₂, ◌∙◌, subst, subst₂, append_assoc, append-nil, length-append, arith}
 use Rattle.std.specs.Prelude.{is_some, IfSome, IfNone}
 use Rattle.std.specs.Option.{option_map, option_and}

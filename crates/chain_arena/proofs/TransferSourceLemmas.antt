@@ -1,4 +1,4 @@
--- The arena that links are transferred from: the chains left in it, by the traits alone.
+-- The source of a transfer, by the traits alone.
 use Rattle.std.proofs.Common.{◌≡◌, ◌≢◌, ℕ, suc, ◌+◌, ◌≤◌, ◌<◌, ◌⊎◌, inl, inr, Bool, true, false, List, [], ◌∷◌, ◌++◌, length, Option, None, Some, refl, sym, ap, ◌∙◌, subst, length-append, arith}
 use Rattle.std.specs.Prelude.{is_some}
 use Rattle.std.specs.Option.{option_map}
@@ -65,8 +65,8 @@ module _ {Gen T : Type 0} (following : Gen → Gen) where
   found-entries_removed s (x ∷ xs) i none =
       found-entries_removed (view_after_removal following s x) xs i (λ h. none (inr h)) ∙ found-kept i x s.entries (λ same. none (inl (sym same)))
 
-  -- Links were taken out of a source: these chains are left, the first of them in part. Links
-  -- outside that part are at or above the advancer's index.
+  -- The chains left, the first in part; links outside that part are at or above the advancer's
+  -- index.
   pub record IsDeparting (source view_after : ArenaView Gen T) (links : LinkMap) (cursor : Cursor) (is_cyclic : Bool) (left : List ℕ) (rest : List Chain) (taken : List ℕ) : Type 0 where
     pub chains : AreChains links (with_rest is_cyclic left rest)
     pub order : IsInOrder rest

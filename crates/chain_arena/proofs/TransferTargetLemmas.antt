@@ -1,5 +1,4 @@
--- The arena that links are transferred to: each is inserted last, and each chain has consecutive
--- indexes.
+-- The target of a transfer.
 use Rattle.std.proofs.Common.{◌≡◌, ℕ, zero, suc, ◌+◌, Bool, List, [], ◌∷◌, ◌++◌, length, Option, None, Some, refl, sym, ap, ap₂, ◌∙◌, subst, length-append, arith}
 use Rattle.std.specs.Option.{option_map}
 use Rattle.chain_laws.specs.Chains.{LinkMap, Interlinks, Chain, all_items, AreChains}
@@ -23,8 +22,7 @@ module _ {Gen T : Type 0} where
       ap (λ es. ((i, x.0), x.1) ∷ es) (entries_from-append (suc i) slots e ∙ ap (λ n. entries_from (suc i) slots ++ ((n, e.0), e.1) ∷ []) (omega arith))
 
 module _ {Gen T : Type 0} where
-  -- The links transferred over have these entries, in the runs of these chains. But for slots and
-  -- placements the arena is unchanged.
+  -- The entries of the transferred links, in the runs of these chains.
   pub record IsLanded (start now : Arena Gen (LinkView T)) (arranged : List Chain) (values : List ((ℕ × Gen) × T)) : Type 0 where
     pub chains : AreChains (link_map now) (in_runs 1 arranged)
     pub entered : entries (values_of now) ≡ values

@@ -1,4 +1,3 @@
--- Transfers, stated by pointer.
 use Rattle.std.specs.Prelude.{◌≡◌, ℕ, Bool, Option}
 use Rattle.std.specs.Fn.{Mut}
 use Rattle.arena_core.specs.Invalidation.{value_in}
@@ -10,12 +9,11 @@ use Rattle.chain_links.specs.ChainArena.{LinkView, entry}
 use Rattle.chain_compaction.specs.PointerMoves.{AreMoved, FindsEntries, HasLinksWhere}
 use Rattle.chain_arena.specs.Transfers.{TransferredLink, IsTransfer}
 
--- The closure was passed the old value of a link, and returned its new value.
+-- The closure maps a link's old value to its new one.
 abbrev pub IsMapped : {Q P U T : Type 0} → TransferredLink Q P U T → U → T → Type 0
 IsMapped c u t = (value_in c.value ≡ u) × (c.returned ≡ t)
 
--- The links transferred from any arena are moves from the pointers of the source to the pointers of
--- the target.
+-- Transferred links move from the source's pointers to the target's.
 abbrev pub TransferMovesPointers : {Q P G Gen U T F : Type 0} → (Q → ℕ × G) → (P → ℕ × Gen) → (G → G) → (G → Bool)
     → Mut F (Q × (InvalidationOption U × (P × Unit {0}))) T → Type 0
 TransferMovesPointers {Q} {P} {G} {Gen} {U} {T} {F} key new_key following wraps call =

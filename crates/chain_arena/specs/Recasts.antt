@@ -1,15 +1,13 @@
--- A recast of a chain arena changes its values and nothing else.
 use Rattle.std.specs.Prelude.{◌≡◌, ℕ, List, [], ◌∷◌, ◌++◌, Some, Result, Ok, Err}
 use Rattle.arena_traits.specs.Arena.{Arena}
 use Rattle.arena_traits.specs.Entries.{with_replacement}
 use Rattle.arena_traits.specs.Compressions.{values_in}
 use Rattle.chain_links.specs.ChainArena.{LinkView, new_link, with_each, with_value_at, link_map, value_view, entry}
 
--- A link without its value.
 abbrev pub link_without_value : {T : Type 0} → LinkView T → LinkView (Unit {0})
 link_without_value link = new_link tt link.prev link.next
 
--- `recasts` relates an old value to its new value and the result.
+-- `recasts` relates old value, new value and result.
 module _ {T I : Type 0} (recasts : T → T → Result (Unit {0}) I → Type 0) where
   -- Each value is recast.
   abbrev pub AreAllRecast : List T → List T → Type 0
@@ -18,8 +16,7 @@ module _ {T I : Type 0} (recasts : T → T → Result (Unit {0}) I → Type 0) w
   AreAllRecast [] (u ∷ us) = ⊥
   AreAllRecast (t ∷ ts) [] = ⊥
 
-  -- Values are recast up to one that fails, which is as its own recast left it; those after it
-  -- stay.
+  -- Values are recast up to one that fails; those after it stay.
   pub record AreRecastUpTo (ts us : List T) (refusal : I) : Type 0 where
     pub before : List T
     pub recast : List T
@@ -31,20 +28,19 @@ module _ {T I : Type 0} (recasts : T → T → Result (Unit {0}) I → Type 0) w
     pub all : AreAllRecast before recast
     pub refuses : recasts was is (Err refusal)
 
-  -- All values are recast, or one that fails gives the result.
+  -- All values are recast, or one fails and gives the result.
   abbrev pub AreRecast : List T → List T → Result (Unit {0}) I → Type 0
   AreRecast ts us (Ok _) = AreAllRecast ts us
   AreRecast ts us (Err refusal) = AreRecastUpTo ts us refusal
 
   module _ {Gen : Type 0} where
-    -- The values are recast in ascending index order. Generations, interlinks and the rest of the
-    -- state stay.
+    -- The values are recast in ascending index order; all else stays.
     pub record IsRecast (old new : Arena Gen (LinkView T)) (returned : Result (Unit {0}) I) : Type 0 where
       pub rest : with_each link_without_value new ≡ with_each link_without_value old
       pub links : link_map new ≡ link_map old
       pub values : AreRecast (values_in (value_view old).entries) (values_in (value_view new).entries) returned
 
-    -- The value at a key is recast, and all else stays.
+    -- One value is recast; all else stays.
     pub record IsRecastAt (old new : Arena Gen (LinkView T)) (p : ℕ × Gen) (returned : Result (Unit {0}) I) : Type 0 where
       pub was : T
       pub is : T

@@ -1,4 +1,3 @@
--- What a state and calls determine: all but capacity, and how many slots a compression touches.
 use Rattle.std.specs.Prelude.{◌≡◌, ℕ, ◌+◌, ◌<◌, ◌≤◌, Bool, true, false, List, [], ◌∷◌, ⊤, Option, Err}
 use Rattle.std.specs.List.{AllZip}
 use Rattle.arena_core.specs.declared.errors.ChainInsertionError.TheVariants as failed
@@ -17,11 +16,11 @@ use Rattle.chain_arena.specs.declared.calls.Reply.{Reply}
 use Rattle.chain_arena.specs.declared.calls.Reply.TheVariants as reply
 
 module _ {Gen T : Type 0} where
-  -- Arenas that are equal except for the number of touched slots.
+  -- Arenas equal but for touches.
   abbrev pub AreSameButTouched : Links Gen T → Links Gen T → Type 0
   AreSameButTouched a b = a ≡ record b { touched = a.touched }
 
-  -- Arenas that are equal except for touches and the capacity.
+  -- Arenas equal but for touches and capacity.
   abbrev pub AreSameButCapacityAndTouched : Links Gen T → Links Gen T → Type 0
   AreSameButCapacityAndTouched a b = AreSameButTouched a (with_capacity_of b a)
 
@@ -33,13 +32,13 @@ AreSameResults see (GenerationOverflow x) (GenerationOverflow y) = see x ≡ see
 AreSameResults see returned other = ⊥
 
 module _ {P I Gen W T : Type 0} where
-  -- Equal replies, where a link is seen as its neighbors and its value.
+  -- Equal replies, with links as contracts see them.
   abbrev pub AreSameReplies : (PackedOption I W → Option ℕ) → Reply P T I Gen W → Reply P T I Gen W → Type 0
   AreSameReplies packed (reply.Removed returned) (reply.Removed other) = AreSameResults (link_view packed) returned other
   AreSameReplies packed (reply.RemovedInx returned) (reply.RemovedInx other) = AreSameResults (pair_view packed) returned other
   AreSameReplies packed r s = r ≡ s
 
-  -- Whether a reply is a refusal of memory or of an index above the greatest.
+  -- Whether memory, or an index above the greatest, was refused.
   abbrev pub refused_memory : Reply P T I Gen W → Bool
   refused_memory (reply.Inserted (Err failed.AllocError)) = true
   refused_memory (reply.Reserved (Err refused.AllocError)) = true
@@ -51,7 +50,6 @@ module _ {P I Gen W T : Type 0} where
   capacity_needed old (call.Reserve n) = n
   capacity_needed old call = 0
 
-  -- A call needs no more capacity than there is.
   abbrev pub HasCapacityAlready : Links Gen T → Call P T I Gen W → Type 0
   HasCapacityAlready old (call.Insert kind t) = entry_count old < old.capacity
   HasCapacityAlready old (call.Reserve n) = n ≤ old.capacity
@@ -59,39 +57,37 @@ module _ {P I Gen W T : Type 0} where
 
 module _ {P I Gen W : Type 0} (pointers : PointerKind P I Gen W) where
   module _ {T : Type 0} where
-    -- A run of calls that need no more capacity than there is.
+    -- A run of calls that need no growth.
     abbrev pub RunWithinCapacity : Links Gen T → List (Call P T I Gen W) → List (Reply P T I Gen W) → Links Gen T → Type 0
     RunWithinCapacity old [] [] new = new ≡ old
     RunWithinCapacity old (call ∷ calls) (reply ∷ replies) new = (between : Links Gen T) × HasCapacityAlready old call × Step pointers old call reply between × RunWithinCapacity between calls replies new
     RunWithinCapacity old calls replies new = ⊥
 
-    -- Two runs of the same calls, from two arenas, with the same capacity after each step.
+    -- Two runs of the same calls, with the same capacity after each step.
     abbrev pub RunWithSameCapacity : Links Gen T → Links Gen T → List (Call P T I Gen W) → List (Reply P T I Gen W) → List (Reply P T I Gen W) → Links Gen T → Links Gen T → Type 0
     RunWithSameCapacity old before [] [] [] new other = (new ≡ old) × (other ≡ before)
     RunWithSameCapacity old before (c ∷ calls) (r ∷ replies) (s ∷ others) new other = (between : Links Gen T) × (beside : Links Gen T)
         × Step pointers old c r between × Step pointers before c s beside × HaveSameCapacity between beside × RunWithSameCapacity between beside calls replies others new other
     RunWithSameCapacity old before calls replies others new other = ⊥
 
-    -- Equal replies, and equal arenas except for touches.
+    -- Equal replies, and arenas equal but for touches.
     abbrev pub EndSame : List (Reply P T I Gen W) → List (Reply P T I Gen W) → Links Gen T → Links Gen T → Type 0
     EndSame replies others new other = AllZip (AreSameReplies pointers.packed) replies others × AreSameButTouched new other
 
-  -- Without growth, a state and a list of calls determine the replies, and the state after them
-  -- except for touches. Only a compression leaves those open.
+  -- Without growth, a state and calls determine the replies and, but for touches, the state after
+  -- them.
   abbrev pub RunIsDetermined : Type 0 → Type 0
   RunIsDetermined T = (old : Links Gen T) (calls : List (Call P T I Gen W)) (replies others : List (Reply P T I Gen W)) (new other : Links Gen T)
       → RunWithinCapacity old calls replies new → Run pointers old calls others other → EndSame replies others new other
 
-  -- Unless an allocation fails to one run alone, a state and a call determine the reply, and the
-  -- state except for capacity and touches. If more links are needed than the greatest index, they
-  -- always do.
+  -- A state and a call determine the reply and, but for capacity and touches, the state, unless an
+  -- allocation fails to one run alone and the links fit the greatest index.
   abbrev pub StepIsDetermined : Type 0 → Type 0
   StepIsDetermined T = (old : Links Gen T) (c : Call P T I Gen W) (r s : Reply P T I Gen W) (new other : Links Gen T)
       → Step pointers old c r new → Step pointers old c s other
       → (capacity_needed old c ≤ pointers.greatest → refused_memory r ≡ refused_memory s) → AreSameReplies pointers.packed r s × AreSameButCapacityAndTouched new other
 
-  -- Two such runs from one state end the same: only touches and the capacity after each step are
-  -- left open.
+  -- Runs from one state with the same capacities end the same.
   abbrev pub RunIsDeterminedByCapacity : Type 0 → Type 0
   RunIsDeterminedByCapacity T = (old : Links Gen T) (calls : List (Call P T I Gen W)) (replies others : List (Reply P T I Gen W)) (new other : Links Gen T)
       → RunWithSameCapacity old old calls replies others new other → EndSame replies others new other

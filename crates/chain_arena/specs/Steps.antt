@@ -1,6 +1,3 @@
--- The steps that calls make: the reply to each call, and the arena after it, as the call's contract
--- states them. Left open are only refusals of memory, how far a growth goes, and how many slots a
--- compression touches.
 use Rattle.std.specs.Prelude.{◌≡◌, ℕ, ⊤, Bool, List, [], ◌∷◌, Option, None, Some, is_some, IfNone, OnSome, Result, IfOk, OnOk, OnErr}
 use Rattle.arena_core.specs.Invalidation.{value_within, invalidation_option}
 use Rattle.arena_core.specs.PointerKinds.{PointerKind}
@@ -28,7 +25,7 @@ use Rattle.chain_arena.specs.declared.calls.Reply.{Reply}
 use Rattle.chain_arena.specs.declared.calls.Reply.TheVariants as reply
 
 module _ {P I Gen W T : Type 0} (pointers : PointerKind P I Gen W) where
-  -- A link is inserted, with any growth of the stack.
+  -- A link is inserted, with any growth.
   abbrev pub IsNewLinkAnyhow : Links Gen T → InsertKind P I → T → Links Gen T → P → Type 0
   IsNewLinkAnyhow old kind t new p = IsNewLink pointers (λ capacity maximum n reached. ⊤) old kind t new p
 
@@ -65,16 +62,15 @@ module _ {P I Gen W T : Type 0} (pointers : PointerKind P I Gen W) where
       SplicesAfter value_state link_map pointers.key old p first last returned new × IfNone returned (new ≡ old)
       × OnSome returned (IsSplice old (pointers.key p).0 (pointers.key first).0 (pointers.key last).0 new)
 
-  -- The link of p was moved after the link of q.
   abbrev pub IsMoveOf : Links Gen T → P → P → Links Gen T → Type 0
   IsMoveOf old p q new = IsMove old (pointers.key p).0 (pointers.key q).0 new
 
-  -- Links were put in an order, each moved after the one before it.
+  -- Links are put in an order, each moved after the one before it.
   abbrev pub ArrangeChainStep : Links Gen T → List P → Option Unit → Links Gen T → Type 0
   ArrangeChainStep old order returned new =
       ArrangesLinks value_state link_map pointers.key old order returned new × IfNone returned (new ≡ old) × OnSome returned (AreMovedInTurn IsMoveOf old order new)
 
-  -- A removal by pointer, and one by index.
+  -- A removal by pointer.
   abbrev pub RemoveStep : Links Gen T → P → InvalidationResult (RawLink (PackedOption I W) T) → Links Gen T → Type 0
   RemoveStep old p returned new =
       RemovesLink value_state link_map pointers old p returned new × IfNone (value_within returned) (new ≡ old) × OnSome (value_within returned) (IsRemoval pointers.following old (pointers.key p).0 new)
@@ -83,7 +79,7 @@ module _ {P I Gen W T : Type 0} (pointers : PointerKind P I Gen W) where
   RemoveInxStep old i returned new =
       RemovesLinkAt value_state link_map pointers old i returned new × IfNone (value_within returned) (new ≡ old) × OnSome (value_within returned) (IsRemoval pointers.following old (pointers.number i) new)
 
-  -- A link has the next generation, and stays in its chain.
+  -- A link has the next generation.
   abbrev pub IsRenewed : Links Gen T → ℕ → Links Gen T → Type 0
   IsRenewed old i new = (new ≡ invalidate_at pointers.following old i) × (link_map new ≡ link_map old)
 
@@ -99,7 +95,7 @@ module _ {P I Gen W T : Type 0} (pointers : PointerKind P I Gen W) where
   abbrev pub ClearStep : Links Gen T → InvalidationOption Unit → Links Gen T → Type 0
   ClearStep old returned new = ClearsEntries value_state pointers old returned new × (new ≡ arena_after_clear pointers.following old)
 
-  -- The holes are closed: each link keeps its value, and its neighbors at their new indexes.
+  -- The holes are closed; values and neighbors stay.
   abbrev pub CompressStep : Links Gen T → Bool → InvalidationOption Unit → Links Gen T → Type 0
   CompressStep old reset returned new =
       CompressesEntries value_state pointers old reset returned new × (values_in (entries (values_of new)) ≡ values_in (entries (values_of old))) × ClosesHoles old new
@@ -107,11 +103,11 @@ module _ {P I Gen W T : Type 0} (pointers : PointerKind P I Gen W) where
   abbrev pub CompressCanonicalStep : Links Gen T → Bool → InvalidationOption Unit → Links Gen T → Type 0
   CompressCanonicalStep old reset returned new = CompressesLinks value_state link_map pointers old reset returned new × (new.stack_capacity ≡ old.stack_capacity)
 
-  -- A growth to capacity for n links.
+  -- A growth for n links.
   abbrev pub ReserveStep : Links Gen T → ℕ → Result Unit ReallocationError → Links Gen T → Type 0
   ReserveStep old n returned new = Reserves pointers.greatest n (value_view old) returned (value_view new) × OnErr returned (new ≡ old) × OnOk returned (GrowsStackToFit pointers.greatest n old old new)
 
-  -- A step of the machine: the reply to a call, and the arena after it.
+  -- A call, its reply, and the arena after it.
   abbrev pub Step : Links Gen T → Call P T I Gen W → Reply P T I Gen W → Links Gen T → Type 0
   Step old (call.Insert kind t) r new = (returned : Result P ChainInsertionError) × (r ≡ reply.Inserted returned) × InsertStep old kind t returned new
   Step old (call.InsertWithin kind t) r new = (returned : Result P ChainInsertionError) × (r ≡ reply.Inserted returned) × InsertWithinStep old kind t returned new
@@ -134,7 +130,7 @@ module _ {P I Gen W T : Type 0} (pointers : PointerKind P I Gen W) where
   Step old (call.SetGeneration g) r new = (r ≡ reply.Set) × (new ≡ with_counter old g)
   Step old call.IncGeneration r new = (r ≡ reply.Counted (invalidation_option (pointers.wraps old.counter) tt)) × (new ≡ with_counter old (pointers.following old.counter))
 
-  -- Steps one after another, with one reply per call.
+  -- Steps in order, with one reply per call.
   abbrev pub Run : Links Gen T → List (Call P T I Gen W) → List (Reply P T I Gen W) → Links Gen T → Type 0
   Run old [] [] new = new ≡ old
   Run old (call ∷ calls) (reply ∷ replies) new = (between : Links Gen T) × Step old call reply between × Run between calls replies new

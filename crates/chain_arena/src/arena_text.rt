@@ -1,5 +1,3 @@
-// The text of a chain arena.
-
 use crate::chain_arena::ChainArena;
 use arena_base::ArenaSlot;
 use arena_ptr::{Ptr, SlotStack};
@@ -7,9 +5,7 @@ use chain_linking::links_text::fmt_links;
 use chain_links::LinkNoGen;
 use std::fmt;
 
-/// Formats all links in ascending index order, as `{P0[1](2): {(start), (end)} "A"}`.
-///
-/// In the alternate form each link is on its own line, indented by four spaces.
+/// Formats all links in ascending index order.
 impl<P: Ptr, T: fmt::Debug + Drop, S: SlotStack<Item = ArenaSlot<P, LinkNoGen<P, T>>>> fmt::Debug
     for ChainArena<P, T, S> {
     fn fmt<F: fmt::Write>(&self, f: &mut fmt::Formatter<F>) -> fmt::Result {

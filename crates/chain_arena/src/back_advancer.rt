@@ -1,4 +1,3 @@
-// An advancer backwards along one chain that borrows no arena.
 ghost use Rattle.std.specs.Prelude.{◌≡◌};
 ghost use Rattle.chain_linking.specs.BackSteps.{back_walker_at};
 
@@ -9,18 +8,9 @@ use chain_linking::back_step::step_backwards;
 use chain_links::LinkNoGen;
 use std::marker::Model;
 
-/// An advancer backwards along one chain.
-///
-/// It goes from a link back to the start, then from the end back to the link after it; a cyclic
-/// chain once around. The arena may change between calls: each returned pointer is valid in the
-/// arena of its call. There are at most as many as there were links when the advancer was made, and
-/// only `None` after `None`. At the start of a linear chain, one call walks on from the first link
-/// to the end.
-///
-/// Made by `ChainArena::advancer_chain_back`. Not in `triple_arena`.
+/// An advancer in the order of `ChainArena::iter_chain_back`, otherwise as `ChainPtrAdvancer`.
 #[derive(Drop)]
 pub struct ChainBackAdvancer<P: PtrKey> {
-    // The most pointers still returned.
     left: usize,
     start: P::Inx,
     at: Option<P::Inx>,
@@ -35,7 +25,6 @@ impl<P: PtrKey> Model for ChainBackAdvancer<P> {
 }
 
 impl<P: PtrKey> ChainBackAdvancer<P> {
-    // Returns an advancer whose next link is at `start`.
     pub(crate) fn new(left: usize, start: P::Inx) -> Self
         ensures { result ≡ back_walker_at left (P.Inx.number start) }
     {

@@ -1,4 +1,3 @@
-// Calls on a chain arena as values, their replies, and lists of them.
 ghost use Rattle.std.specs.Prelude.{◌≡◌, min, length, IfOk, OnErr, MatchResult};
 ghost use Rattle.chain_laws.specs.Neighbors.{HasOneSetOfChains};
 ghost use Rattle.chain_links.specs.ChainArena.{link_map};
@@ -17,78 +16,48 @@ use chain_links::{LinkInsertKind, LinkNoGen};
 use chain_traits::ChainArenaTrait;
 use std::alloc::Allocator;
 
-/// A call that may change a chain arena, with its arguments.
+/// A call that may change a chain arena.
 ///
-/// Each variant is the call of its name. `Insert` is `insert_reallocating`, `InsertWithin` is
-/// `insert_within_capacity`, and `Remove` and `RemoveInx` return the link.
+/// `Insert` is `insert_reallocating`, and `Reserve` is `reallocate_min_capacity`.
 #[derive(Drop)]
 pub enum Call<P: PtrKey, T> {
-    /// Inserts a link of a kind; a full arena grows first.
     Insert { kind: LinkInsertKind<P>, t: T },
-    /// Inserts a link of a kind within the capacity.
     InsertWithin { kind: LinkInsertKind<P>, t: T },
-    /// Connects the first link to the second.
     Connect(P, P),
-    /// Disconnects a link from the link before it.
     BreakPrev(P),
-    /// Disconnects a link from the link after it.
     BreakNext(P),
-    /// Exchanges the next links of two links.
     ExchangeNext(P, P),
-    /// Reverses a link's chain.
     ReverseChain(P),
-    /// Moves the first link to the place after the second.
     MoveAfter(P, P),
-    /// Moves the run of links from the second to the third to the place after the first.
     SpliceAfter(P, P, P),
-    /// Puts links in an order, each directly after the one before it.
     ArrangeChain(Vec<P>),
-    /// Removes a link.
     Remove(P),
-    /// Removes the link at an index.
     RemoveInx(P::Inx),
-    /// Gives a link the next generation.
     Invalidate(P),
-    /// Removes a link's chain: up to `take` links one by one, in walk order from `p`, then the
-    /// rest.
+    /// Up to `take` links one by one, then the rest.
     DrainChain { p: P, take: usize },
-    /// Removes all links and slots.
     Clear,
-    /// Closes the holes. With `true` the counter begins anew.
     Compress(bool),
-    /// Compacts the chains, one after another. With `true` the counter begins anew.
     CompressCanonical(bool),
-    /// Grows to capacity for the given number of links.
     Reserve(usize),
-    /// Sets the counter.
     SetGeneration(P::Gen),
-    /// Increments the counter.
     IncGeneration,
 }
 
 /// The reply to a call.
 #[derive(Drop)]
 pub enum Reply<P: PtrKey, T> {
-    /// Of an insertion: the pointer of the new link, or the error.
     Inserted(Result<P, ChainInsertionError>),
-    /// Of `Connect`, `BreakPrev`, `BreakNext`, `ExchangeNext`, `ReverseChain`, `MoveAfter`,
-    /// `SpliceAfter` and `ArrangeChain`: whether it was done.
+    /// Whether the call was done.
     Done(bool),
-    /// Of `Remove`: the link, with the interlinks that it had.
     Removed(InvalidationResult<LinkNoGen<P, T>>),
-    /// Of `RemoveInx`: the generation and the link, with the interlinks that it had.
     RemovedInx(InvalidationResult<(P::Gen, LinkNoGen<P, T>)>),
-    /// Of `Invalidate`: the link's new pointer.
     Renewed(InvalidationResult<P>),
-    /// Of `DrainChain`: the number of links taken one by one, or `None` if the pointer is not
-    /// valid.
+    /// The links taken one by one, or `None` if the pointer is not valid.
     Drained(Option<usize>),
-    /// Of `Clear`, `Compress`, `CompressCanonical` and `IncGeneration`: whether the counter
-    /// overflowed.
+    /// Whether the counter overflowed.
     Counted(InvalidationOption<()>),
-    /// Of `Reserve`: the error, if it failed.
     Reserved(Result<(), ReallocationError>),
-    /// Of `SetGeneration`.
     Set,
 }
 
@@ -139,8 +108,7 @@ fn reserve<P: PtrKey, T: Drop, S: SlotStack<Item = ArenaSlot<P, LinkNoGen<P, T>>
     grown
 }
 
-// Removes the chain of `p` and returns how many links were taken one by one. `None`: `p` is not
-// valid. It is not inlined, so that its loop has the registers for itself.
+// Not inlined, so that its loop has the registers.
 #[inline(never)]
 fn drain<P: PtrKey, T: Drop, S: SlotStack<Item = ArenaSlot<P, LinkNoGen<P, T>>>>(
     arena: &mut ChainArena<P, T, S>,
@@ -160,7 +128,6 @@ fn drain<P: PtrKey, T: Drop, S: SlotStack<Item = ArenaSlot<P, LinkNoGen<P, T>>>>
     }
 }
 
-// Takes at most `take` links and returns how many it took.
 fn take_links<P: PtrKey, T: Drop, S: SlotStack<Item = ArenaSlot<P, LinkNoGen<P, T>>>>(
     links: &mut ChainDrain<'_, P, T, S>,
     take: usize,
@@ -172,8 +139,7 @@ fn take_links<P: PtrKey, T: Drop, S: SlotStack<Item = ArenaSlot<P, LinkNoGen<P, 
         ≡ without_each P.Gen.following links.old.arena.now
         (walk_left links.old.arena.now links.old.at) }
 {
-    // Counted down, so the test of a step needs no second register. A plain difference would let
-    // LLVM count up again.
+    // A plain difference would let LLVM count up.
     let mut left = take;
     while left > 0 {
         match links.next() {
@@ -184,14 +150,11 @@ fn take_links<P: PtrKey, T: Drop, S: SlotStack<Item = ArenaSlot<P, LinkNoGen<P, 
     take
 }
 
-/// Makes calls in order and returns their replies, one per call.
-///
-/// A call that fails changes nothing, its reply reports so, and the later calls are made.
+/// Makes calls in order and returns their replies; a failed call changes nothing.
 ///
 /// # Errors
 ///
-/// - `AllocError`: the allocation for the replies failed; no call was made, and nothing has
-///   changed.
+/// - `AllocError`: allocating the replies failed; no call is made.
 pub fn run_calls<
     P: PtrKey,
     T: Drop,
@@ -207,7 +170,6 @@ pub fn run_calls<
         (λ refused. arena.new ≡ arena.old) }
 {
     let replies = replies_to(alloc, arena, calls);
-    // With or without an error, the arena has one set of chains.
     arena.invariants();
     replies
 }
@@ -232,14 +194,7 @@ fn replies_to<P: PtrKey, T: Drop, S: SlotStack<Item = ArenaSlot<P, LinkNoGen<P, 
     Ok(replies)
 }
 
-/// States that calls are determined by the arena and the call, except for what memory refuses.
-///
-/// - `runs_determined`: an arena and calls that need no growth determine the replies, and the arena
-///   except for its count of touched slots.
-/// - `by_capacity`: so they do with growth, if each call leaves the same capacity.
-/// - `step`: an arena and a call determine the reply, and the arena except for its capacity and
-///   touches. This holds if an allocation fails to both runs or to neither, or if more links are
-///   needed than the greatest index.
+/// States what an arena and calls determine.
 pub fn runs_are_determined<P: PtrKey, T: Drop>()
     ensures runs_determined { RunIsDetermined ⟦<P as AnyPointer>⟧.pointers T }
     ensures step { StepIsDetermined ⟦<P as AnyPointer>⟧.pointers T }

@@ -1,4 +1,3 @@
-// An advancer along one chain that borrows no arena.
 ghost use Rattle.std.specs.Prelude.{◌≡◌, Some};
 
 use crate::chain_arena::ChainArena;
@@ -9,15 +8,12 @@ use chain_links::LinkNoGen;
 
 /// An advancer along one chain, in walk order.
 ///
-/// It goes from a link to the end, then from the link before it back to the start; a cyclic chain
-/// once around. The arena may change between calls: each returned pointer is valid in the arena of
-/// its call. There are at most as many as there were links when the advancer was made, and only
-/// `None` after `None`.
+/// Each pointer is valid in the arena of its call. There are at most as many as links when it was
+/// made, then only `None`.
 ///
-/// Made by `ChainArenaTrait::advancer_chain`. Port of `ChainPtrAdvancer`.
+/// Port of `ChainPtrAdvancer`.
 #[derive(Drop)]
 pub struct ChainPtrAdvancer<P: PtrKey> {
-    // The most pointers still returned.
     left: usize,
     start: P::Inx,
     forward: Option<P::Inx>,
@@ -25,7 +21,6 @@ pub struct ChainPtrAdvancer<P: PtrKey> {
 }
 
 impl<P: PtrKey> ChainPtrAdvancer<P> {
-    // Returns an advancer whose next link is at `start`, with the link at `back` before it.
     pub(crate) fn new(left: usize, start: P::Inx, back: Option<P::Inx>) -> Self
         ensures left { result.left ≡ left }
         ensures start { result.start ≡ start }

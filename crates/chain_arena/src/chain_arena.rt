@@ -32,10 +32,6 @@ use std::marker::Model;
 /// A generational arena whose entries are linked into any number of doubly linked chains, linear or
 /// cyclic.
 ///
-/// Pointers are typed and carry a generation. The invariant is local: the interlinks agree, and no
-/// link has a destination, which a compression sets and removes. That each link is then in exactly
-/// one chain is a law of the crate `chain_laws`.
-///
 /// Port of `triple_arena::ChainArena`.
 #[derive(Drop)]
 pub struct ChainArena<
@@ -60,8 +56,10 @@ impl<P: PtrKey, T: Drop, S: SlotStack<Item = ArenaSlot<P, LinkNoGen<P, T>>>> Mod
 }
 
 impl<P: PtrKey, T: Drop, S: SlotStack<Item = ArenaSlot<P, LinkNoGen<P, T>>>> ChainArena<P, T, S> {
-    /// Returns an iterator over the links of the chain of `p` in walk order, each once, or `None`
-    /// if `p` is not valid.
+    /// Returns an iterator over the chain of `p` in walk order, or `None` if `p` is not valid.
+    ///
+    /// Walk order goes from `p` to the end, then from the link before `p` back; a cyclic chain once
+    /// around.
     ///
     /// Port of `ChainArenaTrait::iter_chain`.
     pub fn iter_chain(&self, p: P) -> Option<ChainIter<'_, P, T, S>>
@@ -75,14 +73,10 @@ impl<P: PtrKey, T: Drop, S: SlotStack<Item = ArenaSlot<P, LinkNoGen<P, T>>>> Cha
         }
     }
 
-    /// Returns an iterator over the links of the chain of `p` backwards, each once, or `None` if
-    /// `p` is not valid.
+    /// Returns an iterator over the chain of `p` backwards, or `None` if `p` is not valid.
     ///
-    /// It goes from the link at `p` back to the start, then from the end back to the link after
-    /// it; a cyclic chain once around. At the start of a linear chain, one step walks on to the
-    /// end.
-    ///
-    /// Not in `triple_arena`.
+    /// It goes from `p` to the start, then from the end back; a cyclic chain once around. The step
+    /// at the start walks to the end.
     ///
     /// # Examples
     ///
@@ -111,12 +105,7 @@ impl<P: PtrKey, T: Drop, S: SlotStack<Item = ArenaSlot<P, LinkNoGen<P, T>>>> Cha
         }
     }
 
-    /// Returns an advancer backwards along the chain of `p`, or `None` if `p` is not valid.
-    ///
-    /// It goes in the order of `iter_chain_back`. It makes at most as many steps as there are links
-    /// now, whatever arenas it is passed.
-    ///
-    /// Not in `triple_arena`.
+    /// Returns an advancer in the order of `iter_chain_back`, or `None` if `p` is not valid.
     pub fn advancer_chain_back(&self, p: P) -> Option<ChainBackAdvancer<P>>
         ensures { MatchOption result (IsValid (entry self.now) (P.key p) → ⊥)
             (λ a. IsValid (entry self.now) (P.key p)
@@ -129,10 +118,7 @@ impl<P: PtrKey, T: Drop, S: SlotStack<Item = ArenaSlot<P, LinkNoGen<P, T>>>> Cha
         }
     }
 
-    /// States that an advancer backwards along the chain of `p` passes the walk back from `p`,
-    /// while the arena stays the same.
-    ///
-    /// Has no effect. Each `advance` takes one step of the advancer's walker.
+    /// States that `advancer_chain_back` passes the walk back while the arena stays the same.
     pub fn advancer_passes_the_walk_back(&self, p: P)
         ensures { IsValid (entry self.now) (P.key p) → IsWalkBack (link_map self.now) (P.key p).0
             (passes_back self.now (back_walker_at (entry_count self.now) (P.key p).0)) }
@@ -141,20 +127,14 @@ impl<P: PtrKey, T: Drop, S: SlotStack<Item = ArenaSlot<P, LinkNoGen<P, T>>>> Cha
     }
 
     /// States what holds in every chain arena.
-    ///
-    /// Has no effect; a function calls it where its proof needs one of these facts.
     pub fn invariants(&self)
         ensures agree { IsWellLinked (link_map self.now) }
         ensures one { HasOneSetOfChains (link_map self.now) }
         ensures sound { IsSoundView P.Inx.greatest (value_view self.now) }
-
-        // The freed list has each free slot once, so an insertion overwrites no link.
         ensures listed { IsListed self.now }
-
-        // The capacity is the lesser of the stack's capacity and the greatest index.
         ensures capacity { HasCapacityFor P.Inx.greatest (length self.now.slots) self.now }
     {
-        // Naming the field opens the invariant of the type.
+        // Opens the type's invariant.
         let _ = &self.arena;
         self.len();
     }
@@ -165,7 +145,7 @@ impl<P: PtrKey, T: Drop, S: SlotStack<Item = ArenaSlot<P, LinkNoGen<P, T>>>> Cha
         remove_link_at(&mut self.arena, i)
     }
 
-    /// Returns the counter: the generation of the next link.
+    /// Returns the next link's generation.
     ///
     /// Port of `ChainArena::generation`.
     pub fn generation(&self) -> P::Gen
@@ -183,7 +163,7 @@ impl<P: PtrKey, T: Drop, S: SlotStack<Item = ArenaSlot<P, LinkNoGen<P, T>>>> Cha
         self.arena.set_generation(generation);
     }
 
-    /// Increments the counter, and returns `GenerationOverflow` if it wrapped to two.
+    /// Increments the counter; `GenerationOverflow` if it wrapped to two.
     ///
     /// Port of `ChainArena::inc_generation`.
     pub fn inc_generation(&mut self) -> InvalidationOption<()>
@@ -193,11 +173,8 @@ impl<P: PtrKey, T: Drop, S: SlotStack<Item = ArenaSlot<P, LinkNoGen<P, T>>>> Cha
         self.arena.inc_generation()
     }
 
-    /// Compacts the chains as `compress_canonical` does, and reports each link to a visitor.
-    ///
-    /// The visitor sees the old and the new pointer of each link once, by ascending new index, and
-    /// nothing else. It is returned, ready for more, with the work. Does not allocate. Returns
-    /// `GenerationOverflow` if the counter wrapped to two.
+    /// Compacts the chains as `compress_canonical` does, and reports each link once to a visitor,
+    /// by ascending new index.
     pub fn compress_canonical_by<V: Visitor<P>>(
         &mut self,
         reset: bool,
@@ -217,10 +194,7 @@ impl<P: PtrKey, T: Drop, S: SlotStack<Item = ArenaSlot<P, LinkNoGen<P, T>>>> Cha
         (overflow, visitor, work)
     }
 
-    /// Compacts the chains as `compress_canonical_by` does, and reports each link to a closure.
-    ///
-    /// The closure sees the old and the new pointer of each link, by ascending new index. Does not
-    /// allocate.
+    /// Calls `compress_canonical_by` with a closure.
     pub fn compress_canonical_with<F: FnMut(P, P) + Drop>(
         &mut self,
         reset: bool,
@@ -237,15 +211,11 @@ impl<P: PtrKey, T: Drop, S: SlotStack<Item = ArenaSlot<P, LinkNoGen<P, T>>>> Cha
         overflow
     }
 
-    /// Compacts the chains as `compress_canonical` does, and returns the old and the new pointer of
-    /// each link, by ascending new index.
-    ///
-    /// Each value has moved from its old pointer, which was valid, to its new pointer, which is. No
-    /// other pointer was or is valid. The list is allocated first.
+    /// Compacts the chains and returns the old and new pointers, by ascending new index.
     ///
     /// # Errors
     ///
-    /// - `AllocError`: the allocation of the list failed; nothing has changed.
+    /// - `AllocError`: an allocation failed.
     pub fn compress_canonical_moves<A: Allocator>(
         &mut self,
         alloc: A,
@@ -264,10 +234,8 @@ impl<P: PtrKey, T: Drop, S: SlotStack<Item = ArenaSlot<P, LinkNoGen<P, T>>>> Cha
         Ok((overflow, listing.moves))
     }
 
-    /// Compacts the chains as `compress_canonical` does, and returns the work.
-    ///
-    /// Each link is placed once. The slots are touched at most four times per old slot plus twelve
-    /// times per link.
+    /// Compacts the chains and returns the work: at most four touches per old slot plus twelve per
+    /// link.
     pub fn compress_canonical_counted(&mut self, reset: bool) -> (InvalidationOption<()>, Work)
         ensures compressed { CompressCanonicalStep ⟦<P as AnyPointer>⟧.pointers self.old reset
             result.0 self.new }
@@ -299,12 +267,6 @@ impl<P: PtrKey, T: Drop, S: LimitStack<Item = ArenaSlot<P, LinkNoGen<P, T>>>> Se
 
     ghost limits = { λ a n b. b ≡ with_maximum a n };
 
-    /// Sets the maximum to `n`.
-    ///
-    /// # Errors
-    ///
-    /// - `MaxCapacityReductionError`: exactly if `n` is below the capacity of the stack; nothing
-    ///   changes.
     fn set_max_capacity(&mut self, n: usize) -> Result<(), MaxCapacityReductionError> {
         self.arena.set_max_capacity(n)
     }

@@ -1,4 +1,3 @@
-// The removal of one chain, link by link.
 ghost use Rattle.std.specs.Prelude.{◌≡◌, [], IfSome, IfNone, MatchOption};
 ghost use Rattle.std.specs.Borrow.{RestsIfNone, sem};
 ghost use Rattle.std.specs.Option.{option_map};
@@ -18,11 +17,9 @@ use chain_links::LinkNoGen;
 use chain_links::walk_direction::step_on;
 use chain_traits::ChainArenaTrait;
 
-/// A draining iterator over one chain, which removes each link as it yields it, in walk order.
+/// A draining iterator over one chain, in walk order, which removes the rest when dropped.
 ///
-/// It yields a link's pointer, and the link with the interlinks that it has at its own removal; as
-/// `GenerationOverflow` if the counter wrapped to two. Dropping it removes the links that are left.
-/// Every other chain stays, item for item.
+/// It yields each link as at its removal, as `GenerationOverflow` if the counter wrapped.
 ///
 /// Port of `ChainDrain`.
 pub struct ChainDrain<
@@ -32,22 +29,14 @@ pub struct ChainDrain<
     S: SlotStack<Item = ArenaSlot<P, LinkNoGen<P, T>>> = HeapStack<ArenaSlot<P, LinkNoGen<P, T>>>,
 > {
     arena: &'a mut ChainArena<P, T, S>,
-    // The index of the next link to remove, 0 for none.
+    // 0 for none.
     at: usize,
 }
 
 impl<P: PtrKey, T: Drop, S: SlotStack<Item = ArenaSlot<P, LinkNoGen<P, T>>>> ChainArena<P, T, S> {
     ghost use Rattle.chain_arena.specs.contracts.chain_arena.ChainArena.{the_row as arena_row};
 
-    /// Returns an iterator that removes the links of the chain of `p`, or `None` if `p` is not
-    /// valid.
-    ///
-    /// This call itself changes nothing. Each step of the iterator removes a link and returns it
-    /// with its pointer, in `GenerationOverflow` if the counter wrapped to two. Dropping the
-    /// iterator removes the links that are left.
-    ///
-    /// It goes in walk order: from `p` to the end, then from the link before `p` back to the start;
-    /// a cyclic chain once around.
+    /// Returns a draining iterator over the chain of `p`, or `None` if `p` is not valid.
     ///
     /// Port of `ChainArenaTrait::drain_chain`.
     pub fn drain_chain(&mut self, p: P) -> Option<ChainDrain<'_, P, T, S>>
@@ -69,18 +58,14 @@ impl<P: PtrKey, T: Drop, S: SlotStack<Item = ArenaSlot<P, LinkNoGen<P, T>>>> Cha
         Some(ChainDrain { arena: self, at })
     }
 
-    // Returns the index of a number. If it is `None`, no link is there.
     fn index_at(&self, at: usize) -> Option<P::Inx>
         ensures some { IfSome result (λ i. P.Inx.number i ≡ at) }
         ensures none { IfNone result (walk_left self.now at ≡ []) }
     {
-        // There are at most as many slots as indexes.
         self.invariants();
         P::Inx::try_from_usize(at)
     }
 
-    // Removes the link at a number, and returns it after the number of its walk's next link.
-    // Inlined, so the result need not go through memory.
     #[inline(always)]
     pub(crate) fn drain_at(
         &mut self,
@@ -116,8 +101,6 @@ impl<P: PtrKey, T: Drop, S: SlotStack<Item = ArenaSlot<P, LinkNoGen<P, T>>>> Cha
     }
 }
 
-// Returns the item that a drain yields for a removed entry, after the number of the walk's next
-// link.
 fn drain_item<P: PtrKey, T>(
     i: P::Inx,
     entry: (P::Gen, LinkNoGen<P, T>),
@@ -137,8 +120,6 @@ fn drain_item<P: PtrKey, T>(
     )
 }
 
-// Returns the next link of a walk whose first link is removed: the link after it, or else the link
-// before it.
 fn next_after_removal<I: InxKey>(i: I, prev: Option<I>, next: Option<I>) -> Option<I>
     ensures { option_map I.number result ≡ rest_start (I.number i) (option_map I.number prev)
         (option_map I.number next) }
@@ -185,8 +166,7 @@ impl<'a, P: PtrKey, T: Drop, S: SlotStack<Item = ArenaSlot<P, LinkNoGen<P, T>>>>
     }
 }
 
-/// States that a complete drain yields the walk before it: the items have its indexes, in order,
-/// and pointers that were valid before.
+/// States that a complete drain yields the walk before it, by pointers valid then.
 pub fn drain_gives_the_walk<P: PtrKey, T: Drop>()
     ensures { DrainGivesTheWalk T P.key P.Inx.packed_number P.Gen.following P.Gen.wraps }
 {}

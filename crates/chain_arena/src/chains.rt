@@ -1,4 +1,3 @@
-// The chains of an arena, each by its first link.
 ghost use Rattle.std.specs.Prelude.{◌≡◌, ◌≤◌, ◌+◌, length, replicate, All, false, IfOk};
 ghost use Rattle.arena_traits.specs.Arena.{IsValid};
 ghost use Rattle.chain_links.specs.ChainArena.{entry};
@@ -12,18 +11,14 @@ use chain_linking::ChainIter;
 use chain_links::LinkNoGen;
 use std::alloc::Allocator;
 
-/// The first link of a chain, and whether the chain is cyclic.
-///
-/// Returned by `ChainArena::chains`. Not in `triple_arena`.
+/// The first link of a chain.
 #[derive(Clone, Copy, Debug, PartialEq, Eq)]
 pub struct ChainHead<P> {
-    /// The pointer to the start of a linear chain, or to the link of least index of a cyclic one.
+    /// The start of a linear chain, or the least index of a cyclic one.
     pub first: P,
-    /// Whether the chain is cyclic.
     pub is_cyclic: bool,
 }
 
-// Returns the position of a pointer's mark: its index less 1.
 fn place_of<P: PtrKey>(p: P) -> usize
     ensures { result + 1 ≡ (P.key p).0 }
 {
@@ -33,8 +28,6 @@ fn place_of<P: PtrKey>(p: P) -> usize
     }
 }
 
-// Marks the links of a walk that begins at `p`, and returns the head of their chain: the link
-// without a previous one, or else `p`.
 fn mark_walk<P: PtrKey, T: Drop, S: SlotStack<Item = ArenaSlot<P, LinkNoGen<P, T>>>>(
     links: ChainIter<'_, P, T, S>,
     p: P,
@@ -59,7 +52,6 @@ fn mark_walk<P: PtrKey, T: Drop, S: SlotStack<Item = ArenaSlot<P, LinkNoGen<P, T
     head
 }
 
-// Returns `n` marks, of which none is set.
 fn no_marks<A: Allocator>(alloc: A, n: usize) -> Result<Vec<bool, A>, AllocError>
     ensures { IfOk result (λ marks. marks.items ≡ replicate n false) }
 {
@@ -69,17 +61,14 @@ fn no_marks<A: Allocator>(alloc: A, n: usize) -> Result<Vec<bool, A>, AllocError
 }
 
 impl<P: PtrKey, T: Drop, S: SlotStack<Item = ArenaSlot<P, LinkNoGen<P, T>>>> ChainArena<P, T, S> {
-    /// Returns the first link of each chain, in the order of the chains' least indexes.
+    /// Returns the first link of each chain, by ascending least index.
     ///
-    /// Of a linear chain this is its start, of a cyclic one the link of least index. Reads each slot
-    /// once and each link at most twice more, which is not proved. Allocates the list and, until it
-    /// returns, a mark for each slot.
+    /// Reads each slot once and each link at most twice more, which is not proved. Allocates a
+    /// temporary mark per slot.
     ///
     /// # Errors
     ///
     /// - `AllocError`: an allocation failed.
-    ///
-    /// Not in `triple_arena`.
     ///
     /// # Examples
     ///
@@ -107,7 +96,6 @@ impl<P: PtrKey, T: Drop, S: SlotStack<Item = ArenaSlot<P, LinkNoGen<P, T>>>> Cha
         Ok(heads)
     }
 
-    // Marks the links of the chain of `p`, and returns its head: `p`, if the chain is cyclic.
     fn mark_chain(&self, p: P, marks: &mut [bool]) -> ChainHead<P>
         requires valid { IsValid (entry self.now) (P.key p) }
         requires long { length self.now.slots ≤ length marks.old }

@@ -1,4 +1,3 @@
-// Copies of a chain arena.
 ghost use Rattle.std.specs.Prelude.{◌≡◌, [], length, IsOk, IfOk};
 ghost use Rattle.chain_laws.specs.Chains.{IsWellLinked};
 ghost use Rattle.arena_traits.specs.Arena.{HasCapacityFor, IsCapacityFor, IsWithinReach};
@@ -13,7 +12,6 @@ use arena_ptr::{AllocError, InxKey, PackedOption, PtrKey, ReallocationError, Slo
 use chain_links::{LinkNoGen, RawLink};
 use std::alloc::Global;
 
-// Makes the links of a copy, with the same neighbors and a value that the map makes.
 #[derive(Drop)]
 struct LinkMapper<M> {
     values: M,
@@ -50,20 +48,17 @@ impl<
 }
 
 impl<P: PtrKey, T: Drop, S: SlotStack<Item = ArenaSlot<P, LinkNoGen<P, T>>>> ChainArena<P, T, S> {
-    /// Makes this arena a copy of `source`, with values that the map makes.
+    /// Makes this arena a copy of `source`, with values from the map.
     ///
-    /// Copies the indexes, generations, counter, number of slots, freed list and interlinks; the
-    /// old links are dropped. The map sees each link of `source` once, in ascending index order,
-    /// and is returned, ready for more. The arena grows only if `source` has more slots than the
-    /// capacity.
+    /// The map sees the links in ascending index order. The arena grows only if it lacks capacity.
     ///
     /// # Errors
     ///
     /// - `BeyondMaxCapacity`: `source` has more slots than the maximum.
     /// - `AllocError`: an allocation failed.
     ///
-    /// On error nothing has changed and the map has seen nothing; but if the allocation was for a
-    /// value, the arena is left without links and slots.
+    /// On error nothing changes, unless a value's allocation failed, which leaves the arena without
+    /// slots.
     pub fn clone_from_by<
         U: Drop,
         S1: SlotStack<Item = ArenaSlot<P, LinkNoGen<P, U>>>,
@@ -88,17 +83,12 @@ impl<P: PtrKey, T: Drop, S: SlotStack<Item = ArenaSlot<P, LinkNoGen<P, T>>>> Cha
         (done, links.values)
     }
 
-    /// Makes this arena a copy of `source`, as `clone_from_by` does, with the values that a closure
-    /// returns.
-    ///
-    /// The closure sees the links in ascending index order.
+    /// Calls `clone_from_by` with values from a closure.
     ///
     /// # Errors
     ///
     /// - `BeyondMaxCapacity`: `source` has more slots than the maximum.
     /// - `AllocError`: an allocation failed.
-    ///
-    /// On error nothing has changed.
     ///
     /// Port of `ChainArena::clone_from_with`.
     pub fn clone_from_with<
@@ -120,19 +110,12 @@ impl<P: PtrKey, T: Drop, S: SlotStack<Item = ArenaSlot<P, LinkNoGen<P, T>>>> Cha
         done
     }
 
-    /// Makes any arena a copy of this one, with values that the map makes.
-    ///
-    /// Copies the indexes, generations, counter, number of slots and freed list; the old entries
-    /// are dropped. The map sees each link once, in ascending index order, and is returned, ready
-    /// for more. `arena` grows only if there are more slots than its capacity.
+    /// Makes any arena a copy of this one, as `clone_from_by` does.
     ///
     /// # Errors
     ///
-    /// - `BeyondMaxCapacity`: there are more slots than the maximum of `arena`.
+    /// - `BeyondMaxCapacity`: the slots exceed the maximum of `arena`.
     /// - `AllocError`: an allocation failed.
-    ///
-    /// On error nothing has changed and the map has seen nothing; but if the allocation was for a
-    /// value, `arena` is left without entries and slots.
     pub fn clone_to_arena_by<
         U: Drop,
         A: ArenaCloneFromWith<P, U>,
@@ -155,17 +138,12 @@ impl<P: PtrKey, T: Drop, S: SlotStack<Item = ArenaSlot<P, LinkNoGen<P, T>>>> Cha
         arena.clone_from_by(&self.arena, values)
     }
 
-    /// Makes any arena a copy of this one, as `clone_to_arena_by` does, with the values that a
-    /// closure returns.
-    ///
-    /// The closure sees the links in ascending index order.
+    /// Calls `clone_to_arena_by` with values from a closure.
     ///
     /// # Errors
     ///
-    /// - `BeyondMaxCapacity`: there are more slots than the maximum of `arena`.
+    /// - `BeyondMaxCapacity`: the slots exceed the maximum of `arena`.
     /// - `AllocError`: an allocation failed.
-    ///
-    /// On error nothing has changed.
     ///
     /// Port of `ChainArena::clone_to_arena`.
     pub fn clone_to_arena<
@@ -190,7 +168,6 @@ impl<P: PtrKey, T: Drop, S: SlotStack<Item = ArenaSlot<P, LinkNoGen<P, T>>>> Cha
     }
 }
 
-// Makes the links of a copy, with the same neighbors and a cloned value.
 #[derive(Drop)]
 struct LinkClones;
 
@@ -211,17 +188,12 @@ impl<P: PtrKey, T: Clone> ValueMap<P, LinkNoGen<P, T>, LinkNoGen<P, T>> for Link
 }
 
 impl<P: PtrKey, T: Clone, S: SlotStack<Item = ArenaSlot<P, LinkNoGen<P, T>>>> ChainArena<P, T, S> {
-    /// Returns a copy over a new stack that is made with `alloc`.
-    ///
-    /// It has the same indexes, generations, counter, freed list and interlinks, and clones of the
-    /// values, which have to equal them. A maximum is not copied.
+    /// Returns a copy with cloned values.
     ///
     /// # Errors
     ///
-    /// - `BeyondMaxCapacity`: there are more slots than the maximum of a new stack.
-    /// - `AllocError`: an allocation failed, for the slots or in the clone of a value.
-    ///
-    /// On error nothing is left of the copy.
+    /// - `BeyondMaxCapacity`: the slots exceed the stack's maximum.
+    /// - `AllocError`: an allocation failed.
     ///
     /// Port of `ChainArena::clone`.
     pub fn clone(&self, alloc: Global) -> Result<Self, ReallocationError>

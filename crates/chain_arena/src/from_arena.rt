@@ -1,4 +1,3 @@
-// A chain arena from an arena of links.
 ghost use Rattle.std.specs.Prelude.{◌≡◌, MatchResult, codes};
 ghost use Rattle.chain_laws.specs.Chains.{IsWellLinked};
 ghost use Rattle.chain_links.specs.ChainArena.{link_map};
@@ -12,16 +11,11 @@ use chain_linking::links_agree;
 use chain_links::LinkNoGen;
 
 impl<P: PtrKey, T: Drop, S: SlotStack<Item = ArenaSlot<P, LinkNoGen<P, T>>>> ChainArena<P, T, S> {
-    /// Converts an arena of links to a chain arena.
-    ///
-    /// Indexes, generations, counter, slots, freed list and interlinks stay. Any destination that
-    /// `chain_links::link_access` has set in a link is removed. Does not allocate. Takes time
-    /// proportional to the slots, which is not proved.
+    /// Converts an arena of links, in time linear in the slots, which is not proved.
     ///
     /// # Errors
     ///
-    /// - `interlink transitivity does not hold`: the interlinks do not agree (`links_agree`); the
-    ///   arena is dropped.
+    /// - `interlink transitivity does not hold`: the interlinks do not agree; the arena is dropped.
     ///
     /// Port of `ChainArena::from_arena`.
     pub fn from_arena(arena: Arena<P, LinkNoGen<P, T>, S>) -> Result<Self, &'static str>

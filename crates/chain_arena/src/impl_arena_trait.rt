@@ -1,4 +1,3 @@
-// The implementation of `ArenaTrait`: a chain arena as an arena of values.
 ghost use Rattle.std.specs.Prelude.{◌≡◌, length, OnSome, IfNone};
 ghost use Rattle.arena_core.specs.Invalidation.{value_within, with_value_of};
 ghost use Rattle.chain_laws.specs.Neighbors.{HasOneSetOfChains};
@@ -76,17 +75,11 @@ impl<P: PtrKey, T: Drop, S: SlotStack<Item = ArenaSlot<P, LinkNoGen<P, T>>>> Are
         self.arena.max_capacity()
     }
 
-    /// Returns the number of links.
-    ///
-    /// Each is in exactly one chain, at one position, and no two sets of chains have these
-    /// interlinks.
     fn len(&self) -> usize
         ensures count { result ≡ count (value_view self.now) }
         ensures sound { IsSoundView P.Inx.greatest (value_view self.now) }
         ensures links { result ≡ entry_count self.now }
         ensures chains { HasOneSetOfChains (link_map self.now) }
-
-        // The slots, the freed list and the capacity, in every arena.
         ensures listed { IsListed self.now }
         ensures capacity { HasCapacityFor P.Inx.greatest (length self.now.slots) self.now }
     {
@@ -154,16 +147,10 @@ impl<P: PtrKey, T: Drop, S: SlotStack<Item = ArenaSlot<P, LinkNoGen<P, T>>>> Are
         self.arena.advancer_inx(i, rev)
     }
 
-    /// Increments the counter and gives it to a link, which stays in its chain.
     fn invalidate(&mut self, p: P) -> InvalidationResult<P> {
         self.arena.invalidate(p)
     }
 
-    /// Removes a link, returns its value and increments the counter.
-    ///
-    /// The links before and after it, if it has both, become neighbors.
-    /// If that wraps to two, the link is removed and its value returned in `GenerationOverflow`.
-    /// Returns `InvalidPtr` if `p` is not valid; nothing changes then.
     fn remove(&mut self, p: P) -> InvalidationResult<T>
         ensures outcome { RemovesEntry value_state ⟦<P as AnyPointer>⟧.pointers self.old p
             result self.new }
@@ -178,11 +165,6 @@ impl<P: PtrKey, T: Drop, S: SlotStack<Item = ArenaSlot<P, LinkNoGen<P, T>>>> Are
         }
     }
 
-    /// Removes the link at an index, returns its generation and value, and increments the counter.
-    ///
-    /// The links before and after it, if it has both, become neighbors.
-    /// If that wraps to two, the link is removed and returned in `GenerationOverflow`. Returns
-    /// `InvalidPtr` if no link is there; nothing changes then.
     fn remove_inx(&mut self, i: P::Inx) -> InvalidationResult<(P::Gen, T)>
         ensures outcome { RemovesEntryAt value_state ⟦<P as AnyPointer>⟧.pointers self.old i
             result self.new }
@@ -197,7 +179,6 @@ impl<P: PtrKey, T: Drop, S: SlotStack<Item = ArenaSlot<P, LinkNoGen<P, T>>>> Are
         self.arena.clear()
     }
 
-    /// Closes the holes; each link gets the new indexes of its neighbors, so that each chain stays.
     fn compress_with<F: FnMut(P, &mut T, P) + Drop>(
         &mut self,
         reset: bool,
@@ -242,7 +223,6 @@ impl<P: PtrKey, T: Drop, S: SlotStack<Item = ArenaSlot<P, LinkNoGen<P, T>>>> Adv
     }
 }
 
-// Returns a removed value without the generation and the interlinks.
 pub(crate) fn value_alone<G: Drop, I: Vacant, T>(
     removed: InvalidationResult<(G, RawLink<I, T>)>,
 ) -> InvalidationResult<T>
@@ -257,7 +237,6 @@ pub(crate) fn value_alone<G: Drop, I: Vacant, T>(
     }
 }
 
-// Returns a removed value without the interlinks.
 pub(crate) fn value_with_generation<G, I: Vacant, T>(
     removed: InvalidationResult<(G, RawLink<I, T>)>,
 ) -> InvalidationResult<(G, T)>

@@ -1,4 +1,3 @@
-// The implementation of `ChainArenaTrait`: a chain arena as an arena of links.
 ghost use Rattle.std.specs.Prelude.{◌≡◌, ◌↔◌, IsTrue, IfOk, OnErr};
 ghost use Rattle.arena_core.specs.Invalidation.{with_value_of};
 ghost use Rattle.chain_links.specs.Insertions.{MayInsertIn, InsertsLinkWithin, InsertsLink, InsertsAllowedLink};
@@ -73,7 +72,6 @@ impl<P: PtrKey, T: Drop, S: SlotStack<Item = ArenaSlot<P, LinkNoGen<P, T>>>> Cha
         self.beside_for(kind).is_some()
     }
 
-    // Inlined, as the next two, so that an insertion of a known kind has only that kind's branch.
     #[inline(always)]
     fn insert_within_capacity(
         &mut self,
@@ -250,15 +248,12 @@ impl<P: PtrKey, T: Drop, S: SlotStack<Item = ArenaSlot<P, LinkNoGen<P, T>>>> Cha
 }
 
 impl<P: PtrKey, T: Drop, S: SlotStack<Item = ArenaSlot<P, LinkNoGen<P, T>>>> ChainArena<P, T, S> {
-    // Returns whether `p` may be moved after `q`: both are valid, and not the same.
     fn can_move(&self, p: P, q: P) -> bool
         ensures { IsTrue result ↔ CanMove (entry self.now) (P.key p) (P.key q) }
     {
         !p.inx().is_same(q.inx()) && self.contains(p) && self.contains(q)
     }
 
-    // Returns whether the run from `first` to `last` may be moved after `p`: all three are valid,
-    // and `p` is not `last`.
     fn can_splice(&self, p: P, first: P, last: P) -> bool
         ensures { IsTrue result ↔ CanSplice (entry self.now) (P.key p) (P.key first) (P.key last) }
     {
@@ -269,7 +264,6 @@ impl<P: PtrKey, T: Drop, S: SlotStack<Item = ArenaSlot<P, LinkNoGen<P, T>>>> Cha
     }
 }
 
-// Returns a removed link without the generation.
 pub(crate) fn link_alone<G: Drop, L>(removed: InvalidationResult<(G, L)>) -> InvalidationResult<L>
     ensures { result ≡ with_value_of (λ e. e.1) removed }
 {

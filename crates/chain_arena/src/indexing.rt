@@ -1,4 +1,3 @@
-// Access to links by pointers and indexes that are known to be valid.
 ghost use Rattle.std.specs.Prelude.{◌≡◌, IsSome, Some};
 ghost use Rattle.std.specs.Option.{option_map};
 ghost use Rattle.std.specs.Borrow.{Lends, sem};
@@ -14,7 +13,7 @@ use std::ops::{Index, IndexMut};
 impl<P: PtrKey, T: Drop, S: SlotStack<Item = ArenaSlot<P, LinkNoGen<P, T>>>> ChainArena<P, T, S> {
     ghost use Rattle.chain_arena.specs.contracts.chain_arena.ChainArena.{the_row as arena_row};
 
-    /// Returns the value of the link at a valid index.
+    /// Returns the value at a valid index.
     ///
     /// Port of `ChainArena::get_inx_unwrap`.
     pub fn get_inx_unwrap(&self, i: P::Inx) -> &T
@@ -27,7 +26,7 @@ impl<P: PtrKey, T: Drop, S: SlotStack<Item = ArenaSlot<P, LinkNoGen<P, T>>>> Cha
         }
     }
 
-    /// Returns the value of the link at a valid index, for writing.
+    /// Returns the value at a valid index, for writing.
     ///
     /// Port of `ChainArena::get_inx_mut_unwrap`.
     pub fn get_inx_mut_unwrap(&mut self, i: P::Inx) -> &mut T
@@ -45,7 +44,7 @@ impl<P: PtrKey, T: Drop, S: SlotStack<Item = ArenaSlot<P, LinkNoGen<P, T>>>> Cha
     }
 }
 
-/// Access to a value by its link's pointer, which has to be valid.
+/// Access by a valid pointer.
 impl<P: PtrKey, T: Drop, S: SlotStack<Item = ArenaSlot<P, LinkNoGen<P, T>>>> Index<P>
     for ChainArena<P, T, S> {
     ghost use Rattle.arena_traits.specs.Arena.{IsValid};
@@ -62,8 +61,7 @@ impl<P: PtrKey, T: Drop, S: SlotStack<Item = ArenaSlot<P, LinkNoGen<P, T>>>> Ind
     }
 }
 
-/// Mutable access to a value by its link's pointer, which has to be valid. A write changes that
-/// value alone.
+/// Mutable access by a valid pointer.
 impl<P: PtrKey, T: Drop, S: SlotStack<Item = ArenaSlot<P, LinkNoGen<P, T>>>> IndexMut<P>
     for ChainArena<P, T, S> {
     ghost use Rattle.chain_arena.specs.contracts.chain_arena.ChainArena.{the_row as arena_row};

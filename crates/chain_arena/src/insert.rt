@@ -1,4 +1,3 @@
-// The links beside a new one of a kind, and insertions between them.
 ghost use Rattle.std.specs.Prelude.{◌≡◌, ◌<◌, IsSome, IsSomeAnd, None, Some};
 ghost use Rattle.std.specs.Option.{option_map, option_and_then};
 ghost use Rattle.chain_laws.specs.Chains.{IsWellLinked};
@@ -17,15 +16,13 @@ use chain_linking::link_writes::write_beside;
 use chain_links::links::is_index;
 use chain_links::{LinkInsertKind, LinkNoGen, RawLink};
 
-// The indexes of the links before and after a new one.
+// The indexes before and after a new link.
 pub(crate) type Beside<I> = (Option<I>, Option<I>);
 
-// A link that a kind names, if there is one, and its index.
 type Named<'a, I, W, T> = (Option<&'a RawLink<PackedOption<I, W>, T>>, I);
 
 impl<P: PtrKey, T: Drop, S: SlotStack<Item = ArenaSlot<P, LinkNoGen<P, T>>>> ChainArena<P, T, S> {
-    // Returns the links that a new one of a kind comes between, or `None` if the requirement of the
-    // kind is not met. Inlined, so that a kind known at compile time leaves only its own branch.
+    // A known kind leaves only its branch.
     #[inline(always)]
     pub(crate) fn beside_for(&self, kind: LinkInsertKind<P>) -> Option<Beside<P::Inx>>
         ensures beside { FindsBeside ⟦<P as AnyPointer>⟧.pointers self.now kind result }
@@ -58,7 +55,6 @@ impl<P: PtrKey, T: Drop, S: SlotStack<Item = ArenaSlot<P, LinkNoGen<P, T>>>> Cha
         }
     }
 
-    // Returns the link of a pointer, if that is valid, and its index.
     #[inline(always)]
     fn named(&self, p: P) -> (Option<&LinkNoGen<P, T>>, P::Inx)
         ensures { NamesLink P.Inx.packed_number P.Inx.number self.now (P.key p).0
@@ -67,7 +63,6 @@ impl<P: PtrKey, T: Drop, S: SlotStack<Item = ArenaSlot<P, LinkNoGen<P, T>>>> Cha
         (self.arena.get(p), p.inx())
     }
 
-    // Returns the link at an index, if there is one, and the index.
     #[inline(always)]
     fn named_inx(&self, i: P::Inx) -> (Option<&LinkNoGen<P, T>>, P::Inx)
         ensures { NamesLink P.Inx.packed_number P.Inx.number self.now (P.Inx.number i)
@@ -76,7 +71,6 @@ impl<P: PtrKey, T: Drop, S: SlotStack<Item = ArenaSlot<P, LinkNoGen<P, T>>>> Cha
         (link_at(&self.arena, i), i)
     }
 
-    // Returns the same within the capacity. Inlined, as the insertions are.
     #[inline(always)]
     pub(crate) fn beside_within_capacity(
         &self,
@@ -97,7 +91,6 @@ impl<P: PtrKey, T: Drop, S: SlotStack<Item = ArenaSlot<P, LinkNoGen<P, T>>>> Cha
         }
     }
 
-    // Returns the same; a full arena grows first. Inlined, as the insertions are.
     #[inline(always)]
     pub(crate) fn beside_with_growth(
         &mut self,
@@ -116,8 +109,6 @@ impl<P: PtrKey, T: Drop, S: SlotStack<Item = ArenaSlot<P, LinkNoGen<P, T>>>> Cha
         }
     }
 
-    // Inserts a link between two, or beside one, or alone, or before and after itself, within the
-    // capacity. Inlined, so the indexes need not go through memory.
     #[inline(always)]
     pub(crate) fn insert_between(&mut self, beside: Beside<P::Inx>, t: T) -> P
         requires position { IsInsertPosition (link_map self.old) (next_index self.old)
@@ -134,7 +125,6 @@ impl<P: PtrKey, T: Drop, S: SlotStack<Item = ArenaSlot<P, LinkNoGen<P, T>>>> Cha
     }
 }
 
-// Returns the link at an index, if there is one.
 fn link_at<P: PtrKey, T: Drop, S: SlotStack<Item = ArenaSlot<P, LinkNoGen<P, T>>>>(
     arena: &Arena<P, LinkNoGen<P, T>, S>,
     i: P::Inx,
@@ -148,7 +138,6 @@ fn link_at<P: PtrKey, T: Drop, S: SlotStack<Item = ArenaSlot<P, LinkNoGen<P, T>>
     }
 }
 
-// Returns what is beside a new link after `a`, if that is the end of a chain.
 fn after_end<W: Copy, I: InxKey<Word = W>, T>(a: Named<'_, I, W, T>) -> Option<Beside<I>>
     ensures { ReturnsBeside I.number
         (IsSomeAnd a.entry.0 (λ l. (link_view I.packed_number l.now).next ≡ None))
@@ -160,7 +149,6 @@ fn after_end<W: Copy, I: InxKey<Word = W>, T>(a: Named<'_, I, W, T>) -> Option<B
     }
 }
 
-// Returns what is beside a new link before `b`, if that is the start of a chain.
 fn before_start<W: Copy, I: InxKey<Word = W>, T>(b: Named<'_, I, W, T>) -> Option<Beside<I>>
     ensures { ReturnsBeside I.number
         (IsSomeAnd b.entry.0 (λ l. (link_view I.packed_number l.now).prev ≡ None))
@@ -172,7 +160,6 @@ fn before_start<W: Copy, I: InxKey<Word = W>, T>(b: Named<'_, I, W, T>) -> Optio
     }
 }
 
-// Returns what is beside a new link after `a`.
 fn after_link<W: Copy, I: InxKey<Word = W>, T>(a: Named<'_, I, W, T>) -> Option<Beside<I>>
     ensures { ReturnsBeside I.number (IsSome a.entry.0) (Some (I.number a.entry.1))
         (option_and_then (λ l. (link_view I.packed_number l.now).next) a.entry.0) result }
@@ -180,7 +167,6 @@ fn after_link<W: Copy, I: InxKey<Word = W>, T>(a: Named<'_, I, W, T>) -> Option<
     Some((Some(a.1), a.0?.next()))
 }
 
-// Returns what is beside a new link before `b`.
 fn before_link<W: Copy, I: InxKey<Word = W>, T>(b: Named<'_, I, W, T>) -> Option<Beside<I>>
     ensures { ReturnsBeside I.number (IsSome b.entry.0)
         (option_and_then (λ l. (link_view I.packed_number l.now).prev) b.entry.0)
@@ -189,7 +175,6 @@ fn before_link<W: Copy, I: InxKey<Word = W>, T>(b: Named<'_, I, W, T>) -> Option
     Some((b.0?.prev(), Some(b.1)))
 }
 
-// Returns what is beside a new link between `a` and `b`, if they are neighbors.
 fn between<W: Copy, I: InxKey<Word = W>, T>(
     a: Named<'_, I, W, T>,
     b: Named<'_, I, W, T>,
@@ -207,7 +192,6 @@ fn between<W: Copy, I: InxKey<Word = W>, T>(
     }
 }
 
-// Returns what is beside a new link after `a`, the end of a chain, and before `b`, a start.
 fn bridge<W: Copy, I: InxKey<Word = W>, T>(
     a: Named<'_, I, W, T>,
     b: Named<'_, I, W, T>,

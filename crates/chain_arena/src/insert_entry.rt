@@ -1,4 +1,3 @@
-// An insertion of a link whose pointer is known before its value.
 ghost use Rattle.std.specs.Prelude.{◌≡◌, ◌<◌, ◌≤◌, IfOk, Err};
 ghost use Rattle.std.specs.Borrow.{RestsIfErr, sem};
 ghost use Rattle.std.specs.Option.{option_map};
@@ -21,8 +20,7 @@ use chain_links::{LinkInsertKind, LinkNoGen};
 
 /// An insertion position of a link whose pointer is known before its value.
 ///
-/// Dropping it changes nothing: no link is inserted, and the next insertion has the pointer. A
-/// growth made for it stays.
+/// Dropping it inserts nothing, but a growth stays.
 ///
 /// Port of `ChainArenaInsertEntry`.
 pub struct ChainArenaInsertEntry<
@@ -32,7 +30,7 @@ pub struct ChainArenaInsertEntry<
     S: SlotStack<Item = ArenaSlot<P, LinkNoGen<P, T>>> = HeapStack<ArenaSlot<P, LinkNoGen<P, T>>>,
 > {
     arena: &'a mut ChainArena<P, T, S>,
-    // The indexes of the new link and of its neighbors, 0 for none.
+    // Indexes, 0 for none.
     inx: usize,
     prev: usize,
     next: usize,
@@ -45,7 +43,6 @@ pub struct ChainArenaInsertEntry<
         (nonzero_index next) ∥₁ },
 }
 
-// Returns an optional index as a number, 0 for none.
 pub(crate) fn number_or_zero<I: InxKey>(i: Option<I>) -> usize
     ensures index { nonzero_index result ≡ option_map I.number i }
     ensures within { result ≤ I.greatest }
@@ -59,7 +56,6 @@ pub(crate) fn number_or_zero<I: InxKey>(i: Option<I>) -> usize
     }
 }
 
-// Returns the index of a number, `None` for 0.
 fn index_or_none<I: InxKey>(n: usize) -> Option<I>
     requires { n ≤ I.greatest }
     ensures { option_map I.number result ≡ nonzero_index n }
@@ -70,16 +66,14 @@ fn index_or_none<I: InxKey>(n: usize) -> Option<I>
 impl<P: PtrKey, T: Drop, S: SlotStack<Item = ArenaSlot<P, LinkNoGen<P, T>>>> ChainArena<P, T, S> {
     ghost use Rattle.chain_arena.specs.contracts.chain_arena.ChainArena.{the_row as arena_row};
 
-    /// Returns an entry for a link of the given kind, within the capacity.
-    ///
-    /// Does not allocate.
+    /// Returns an entry for a link, within the capacity.
     ///
     /// # Errors
     ///
     /// - `FailedLinkRequirement`: the requirement of `kind` is not met.
-    /// - `NotWithinCapacity`: there are as many links as the capacity.
+    /// - `NotWithinCapacity`: the arena is full.
     ///
-    /// On error nothing has changed.
+    /// On error, nothing changes.
     ///
     /// Port of `ChainArenaTrait::entry_insert_within_capacity`.
     pub fn entry_insert_within_capacity(
@@ -103,17 +97,13 @@ impl<P: PtrKey, T: Drop, S: SlotStack<Item = ArenaSlot<P, LinkNoGen<P, T>>>> Cha
         }
     }
 
-    /// Returns an entry for a link of the given kind; a full arena grows first.
-    ///
-    /// The growth stays, whether the entry is used or not.
+    /// Returns an entry for a link; a full arena grows first.
     ///
     /// # Errors
     ///
     /// - `FailedLinkRequirement`: the requirement of `kind` is not met.
-    /// - `BeyondMaxCapacity`: the required growth exceeds the maximum.
-    /// - `AllocError`: the growth exceeds the greatest index, or an allocation failed.
-    ///
-    /// On error nothing has changed.
+    /// - `BeyondMaxCapacity`: growth exceeds the maximum.
+    /// - `AllocError`: an allocation failed, or the greatest index is reached.
     ///
     /// Port of `ChainArenaTrait::entry_insert_reallocating`.
     pub fn entry_insert_reallocating(
@@ -137,15 +127,12 @@ impl<P: PtrKey, T: Drop, S: SlotStack<Item = ArenaSlot<P, LinkNoGen<P, T>>>> Cha
         }
     }
 
-    /// Returns an entry for a link of a kind that may be inserted (`can_insert`), as
-    /// `entry_insert_reallocating` does.
+    /// Returns an entry for a kind that may be inserted; a full arena grows first.
     ///
     /// # Errors
     ///
-    /// - `BeyondMaxCapacity`: the required growth exceeds the maximum.
-    /// - `AllocError`: the growth exceeds the greatest index, or an allocation failed.
-    ///
-    /// On error nothing has changed.
+    /// - `BeyondMaxCapacity`: growth exceeds the maximum.
+    /// - `AllocError`: an allocation failed, or the greatest index is reached.
     ///
     /// Port of `ChainArenaTrait::entry_insert`.
     pub fn entry_insert(
@@ -195,7 +182,7 @@ impl<
     T: Drop,
     S: SlotStack<Item = ArenaSlot<P, LinkNoGen<P, T>>>,
 > ChainArenaInsertEntry<'a, P, T, S> {
-    /// Returns the pointer that the link will have.
+    /// Returns the link's future pointer.
     pub fn ptr(&self) -> P
         ensures { P.key result ≡ (next_index self.now.arena.now, self.now.arena.now.counter) }
     {
@@ -205,7 +192,7 @@ impl<
         }
     }
 
-    /// Inserts the link. Does not allocate.
+    /// Inserts the link without allocating.
     pub fn insert(self, t: T)
         ensures state { self.exit.0.now ≡ insert_between self.entry.arena.now t
             (nonzero_index self.entry.prev) (nonzero_index self.entry.next) }

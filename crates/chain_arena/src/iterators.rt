@@ -1,4 +1,3 @@
-// Iterators over all links of a chain arena, each once, in ascending index order.
 ghost use Rattle.std.specs.Prelude.{◌≡◌, ◌<◌, ◌^◌, length};
 ghost use Rattle.std.specs.Iterator.{YieldsFirstBy, item_count};
 ghost use Rattle.arena_traits.specs.Entries.{entries};
@@ -12,7 +11,7 @@ use chain_links::LinkNoGen;
 use chain_links::link_access::value_of;
 use std::marker::Model;
 
-/// An iterator over the pointers and values of a chain arena, seen as the list of those left.
+/// An iterator over all pointers and values.
 ///
 /// Port of `ValIter`.
 #[derive(Drop)]
@@ -53,7 +52,7 @@ impl<'a, P: PtrKey, T: Drop, S: SlotStack<Item = ArenaSlot<P, LinkNoGen<P, T>>>>
 }
 
 impl<P: PtrKey, T: Drop, S: SlotStack<Item = ArenaSlot<P, LinkNoGen<P, T>>>> ChainArena<P, T, S> {
-    /// Returns an iterator over the pointers and values of all links, in ascending index order.
+    /// Returns an iterator over all pointers and values, in ascending index order.
     ///
     /// Port of `ChainArena::iter`.
     pub fn iter(&self) -> ValIter<'_, P, T, S>
@@ -65,7 +64,7 @@ impl<P: PtrKey, T: Drop, S: SlotStack<Item = ArenaSlot<P, LinkNoGen<P, T>>>> Cha
         }
     }
 
-    /// Returns an iterator over all links and their pointers, in ascending index order.
+    /// Returns an iterator over all pointers and links, in ascending index order.
     ///
     /// Port of `ChainArenaTrait::iter_link_no_gen`.
     pub fn iter_link_no_gen(&self) -> Iter<'_, P, LinkNoGen<P, T>, S>
@@ -76,7 +75,6 @@ impl<P: PtrKey, T: Drop, S: SlotStack<Item = ArenaSlot<P, LinkNoGen<P, T>>>> Cha
     }
 }
 
-// Returns an iterator over all links of an arena, whose number fits in 64 bits.
 pub(crate) fn links_of<P: PtrKey, T: Drop, S: SlotStack<Item = ArenaSlot<P, LinkNoGen<P, T>>>>(
     arena: &Arena<P, LinkNoGen<P, T>, S>,
 ) -> Iter<'_, P, LinkNoGen<P, T>, S>
@@ -99,8 +97,6 @@ impl<P: PtrKey, T: Drop, S: SlotStack<Item = ArenaSlot<P, LinkNoGen<P, T>>>> Int
     ghost into_iter_gives = { λ a it. (entry_views P.Inx.packed_number it ≡ entries a)
         × (length it < 2 ^ 64) };
 
-    /// Returns an iterator over the links of a consumed arena, with their pointers and interlinks,
-    /// in ascending index order.
     fn into_iter(self) -> CapacityDrain<P, LinkNoGen<P, T>, S> {
         let ChainArena { arena } = self;
         arena.invariants();
@@ -108,8 +104,7 @@ impl<P: PtrKey, T: Drop, S: SlotStack<Item = ArenaSlot<P, LinkNoGen<P, T>>>> Int
     }
 }
 
-// `&'a ChainArena<P, T, S>` implies that an index and its word live as long, but the check does not
-// see it.
+// The check does not infer these lifetimes from `&'a ChainArena<P, T, S>`.
 impl<'a, P: PtrKey, T: Drop, S: SlotStack<Item = ArenaSlot<P, LinkNoGen<P, T>>>> IntoIterator
     for &'a ChainArena<P, T, S>
 where
@@ -127,7 +122,6 @@ where
     ghost into_iter_gives = { λ a it. (entry_views P.Inx.packed_number it ≡ entries a.now)
         × (length it < 2 ^ 64) };
 
-    /// Returns an iterator over all links and their pointers, in ascending index order.
     fn into_iter(self) -> Iter<'a, P, LinkNoGen<P, T>, S> {
         self.iter_link_no_gen()
     }

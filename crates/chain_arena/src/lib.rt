@@ -1,5 +1,4 @@
-//! A generational arena whose values are linked into any number of doubly linked chains, linear or
-//! cyclic, by two optional indexes beside each value. Pointers are typed and carry a generation.
+//! A generational arena whose values are linked into doubly linked chains, linear or cyclic.
 //!
 //! ```text
 //! index       1    2    3    4    5    6          one arena of six links, in three chains
@@ -9,9 +8,6 @@
 //!             '-------------'
 //!             start - 4 - end                     a link alone is a chain, too
 //! ```
-//!
-//! `ChainArenaTrait` has the calls on links, and `arena_base::ArenaTrait` the calls on values. The
-//! rest is `ChainArena`'s own. It uses the plain arena below only by the contracts of its calls.
 //!
 //! ```rust
 //! #![tactic(auto)]

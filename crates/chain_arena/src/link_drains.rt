@@ -1,4 +1,3 @@
-// The removal of all links of an arena, one after another.
 ghost use Rattle.std.specs.Prelude.{◌≡◌, [], None, MatchOption};
 ghost use Rattle.std.specs.Iterator.{item_count};
 ghost use Rattle.std.specs.Option.{option_map};
@@ -12,12 +11,11 @@ use arena_base::{Advancer, ArenaSlot, ArenaTrait, assume_proved, inx_at, proved_
 use arena_ptr::{HeapStack, InvalidationOption, InxKey, PtrKey, SlotStack};
 use chain_links::LinkNoGen;
 
-/// A draining iterator over all links, which removes each link as it yields it, in ascending index
-/// order.
+/// A draining iterator over all links, in ascending index order, which removes the rest when
+/// dropped.
 ///
-/// It yields a link's pointer and value, as `GenerationOverflow` if the counter wrapped to two.
-/// Dropping it removes the links that are left. Unlike `clear` it keeps the slots, and increments
-/// the counter once per link.
+/// It yields pointers and values, as `GenerationOverflow` if the counter wrapped. Unlike `clear` it
+/// keeps the slots.
 ///
 /// Port of the iterator of `ChainArena::drain`.
 pub struct LinkDrain<
@@ -27,12 +25,12 @@ pub struct LinkDrain<
     S: SlotStack<Item = ArenaSlot<P, LinkNoGen<P, T>>> = HeapStack<ArenaSlot<P, LinkNoGen<P, T>>>,
 > {
     arena: &'a mut ChainArena<P, T, S>,
-    // The least index that may still be removed, 0 for none.
+    // The least index left, 0 for none.
     at: usize,
 }
 
 impl<P: PtrKey, T: Drop, S: SlotStack<Item = ArenaSlot<P, LinkNoGen<P, T>>>> ChainArena<P, T, S> {
-    /// Returns a draining iterator over all links, in ascending index order.
+    /// Returns a draining iterator over all links.
     ///
     /// Port of `ChainArena::drain`.
     pub fn drain(&mut self) -> LinkDrain<'_, P, T, S>
@@ -43,13 +41,10 @@ impl<P: PtrKey, T: Drop, S: SlotStack<Item = ArenaSlot<P, LinkNoGen<P, T>>>> Cha
         LinkDrain { arena: self, at: 1 }
     }
 
-    // Returns the pointer of the first link from an index on. Inlined, so the result need not go
-    // through memory.
     #[inline(always)]
     fn first_from(&self, at: usize) -> Option<P>
         ensures { option_map P.key result ≡ first_key (entries_left self.now at) }
     {
-        // No link has an index above the greatest.
         self.invariants();
         match P::Inx::try_from_usize(at) {
             Some(i) => self.advancer_inx(i, false).advance(self),
@@ -57,8 +52,6 @@ impl<P: PtrKey, T: Drop, S: SlotStack<Item = ArenaSlot<P, LinkNoGen<P, T>>>> Cha
         }
     }
 
-    // Removes the link at an index, if there is one, and returns its pointer and value. Inlined, so
-    // the result need not go through memory.
     #[inline(always)]
     fn take_link(&mut self, i: P::Inx) -> Option<InvalidationOption<(P, T)>>
         ensures { MatchOption result ((entry self.old (P.Inx.number i) ≡ None)
@@ -75,20 +68,18 @@ impl<P: PtrKey, T: Drop, S: SlotStack<Item = ArenaSlot<P, LinkNoGen<P, T>>>> Cha
         }
     }
 
-    // Removes the link at an index, if there is one, and returns it after the next index.
     #[inline(always)]
     fn drain_link_at(&mut self, at: usize) -> Option<(usize, InvalidationOption<(P, T)>)>
         ensures { MatchOption result (self.new ≡ self.old)
             (λ e. IsLinkDrainStep P.key P.Gen.following P.Gen.wraps self.old at e.1 self.new e.0) }
     {
-        // No slot has an index above the greatest.
         self.invariants();
         if at == 0 || at - 1 >= self.backing().len() {
             return None;
         }
         let i = inx_at::<P>(at - 1);
 
-        // With this fact LLVM tests the index against the number of slots only once.
+        // Spares LLVM a second test of the index.
         assume_proved(number_or_zero(Some(i)) == at);
         match self.take_link(i) {
             Some(gone) => Some((at.saturating_add(1), gone)),
@@ -96,8 +87,7 @@ impl<P: PtrKey, T: Drop, S: SlotStack<Item = ArenaSlot<P, LinkNoGen<P, T>>>> Cha
         }
     }
 
-    // Removes the first link from an index on, and returns it after the index that follows its own.
-    // In an arena without free slots it is at the index itself, so that slot is tested first.
+    // Without free slots the first link is at the index itself.
     #[inline(always)]
     fn drain_first(&mut self, at: usize) -> Option<(usize, InvalidationOption<(P, T)>)>
         ensures { MatchOption result ((entries_left self.old at ≡ []) × (self.new ≡ self.old))
@@ -109,7 +99,6 @@ impl<P: PtrKey, T: Drop, S: SlotStack<Item = ArenaSlot<P, LinkNoGen<P, T>>>> Cha
         }
     }
 
-    // Searches for the first link from an index on, and removes it as `drain_first` does.
     #[inline(always)]
     fn drain_by_search(&mut self, at: usize) -> Option<(usize, InvalidationOption<(P, T)>)>
         ensures { MatchOption result ((entries_left self.old at ≡ []) × (self.new ≡ self.old))

@@ -1,4 +1,3 @@
-// The recast of the values of a chain arena.
 ghost use Rattle.arena_traits.specs.Arena.{IsValid};
 ghost use Rattle.chain_links.specs.ChainArena.{entry};
 ghost use Rattle.chain_arena.specs.Recasts.{IsRecastAt};
@@ -32,12 +31,7 @@ impl<P: PtrKey, I, T: Recast<I> + Drop, S: SlotStack<Item = ArenaSlot<P, LinkNoG
     ghost recast_by = { λ recasts old new returned. IsRecast
         (T.recast_by recasts) old new returned };
 
-    /// Recasts each value, in ascending index order; pointers, interlinks and all else stay.
-    ///
-    /// # Errors
-    ///
-    /// - The error of the first value whose recast fails. It is as its recast left it, the values
-    ///   before it are recast, and those after it stay.
+    /// Recasts the values in ascending index order, up to the first that fails.
     fn recast<R: Recaster<Item = I>>(&mut self, recaster: &R) -> Result<(), I> {
         let mut all = self.advancer();
         while let Some(p) = all.advance(&*self) {

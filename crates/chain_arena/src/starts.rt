@@ -1,4 +1,3 @@
-// The starts of the linear chains, without memory.
 ghost use Rattle.std.specs.Prelude.{◌≡◌, ◌<◌, ◌^◌, length};
 ghost use Rattle.std.specs.Iterator.{YieldsFirstBy, item_count};
 ghost use Rattle.chain_arena.specs.Starts.{starts_of, AreStarts};
@@ -10,10 +9,7 @@ use arena_ptr::{HeapStack, PtrKey, SlotStack};
 use chain_links::LinkNoGen;
 use std::marker::Model;
 
-/// An iterator over the pointers to the starts of the linear chains, in ascending index order, seen
-/// as the list of those left.
-///
-/// Made by `ChainArena::starts`. Not in `triple_arena`.
+/// An iterator over the starts of the linear chains.
 #[derive(Drop)]
 pub struct Starts<
     'a,
@@ -55,10 +51,9 @@ impl<'a, P: PtrKey, T: Drop, S: SlotStack<Item = ArenaSlot<P, LinkNoGen<P, T>>>>
 }
 
 impl<P: PtrKey, T: Drop, S: SlotStack<Item = ArenaSlot<P, LinkNoGen<P, T>>>> ChainArena<P, T, S> {
-    /// Returns an iterator over the pointers to the starts of the linear chains, in ascending index
-    /// order: one for each such chain.
+    /// Returns the pointers to the starts of the linear chains, in ascending index order.
     ///
-    /// It reads each slot once, and allocates nothing. Not in `triple_arena`.
+    /// Reads each slot once.
     ///
     /// # Examples
     ///

@@ -1,4 +1,3 @@
-// The transfer of all links of another arena, chain by chain.
 ghost use Rattle.std.specs.Prelude.{◌≡◌, ◌≤◌, ◌<◌, ◌+◌, ℕ, IsOk};
 ghost use Rattle.chain_laws.specs.Transfer.{end_before, end_after};
 ghost use Rattle.arena_traits.specs.Arena.{ReachesCapacity, IsListed, with_capacity_of, entry_count, next_index};
@@ -18,17 +17,15 @@ use chain_traits::ChainArenaTrait;
 use chain_traits::drain_in_order::{Taken, take_next};
 
 impl<P: PtrKey, T: Drop, S: SlotStack<Item = ArenaSlot<P, LinkNoGen<P, T>>>> ChainArena<P, T, S> {
-    /// Moves all links of `source` to this arena, chain by chain from index 1 on, and leaves
-    /// nothing else here.
+    /// Moves all links of `source` to this arena, and leaves nothing else here.
     ///
-    /// The chains are taken in the order of their least indexes, a linear chain from its start, a
-    /// cyclic chain from its least index. The k-th link is moved to index k, with the generation
-    /// `new_generation`, which becomes the counter. In that order, the closure is passed each
-    /// link's old pointer, value and new pointer, once, and returns the new value. A value comes as
-    /// `GenerationOverflow` if its removal overflowed the counter of `source`.
+    /// Chains come by least index, a linear one from its start, a cyclic one from its least index.
+    /// The k-th link gets index k and the generation `new_generation`. The closure maps old
+    /// pointer, old value (`GenerationOverflow` if the counter of `source` wrapped) and new
+    /// pointer.
     ///
-    /// Does not allocate if `source` has at most as many links as the capacity. Takes time
-    /// proportional to the slots of `source`, which is not proved.
+    /// Allocates only if `source` has more links than the capacity. Linear in its slots, which is
+    /// not proved.
     ///
     /// # Errors
     ///
@@ -36,7 +33,7 @@ impl<P: PtrKey, T: Drop, S: SlotStack<Item = ArenaSlot<P, LinkNoGen<P, T>>>> Cha
     /// - `BeyondMaxCapacity`: `source` has more links than the maximum.
     /// - `AllocError`: an allocation failed.
     ///
-    /// On error nothing has changed in either arena, and the closure was not called.
+    /// On error, nothing changes.
     ///
     /// Port of `ChainArena::transfer_canonical_reallocating`.
     pub fn transfer_canonical_reallocating<
@@ -67,7 +64,6 @@ impl<P: PtrKey, T: Drop, S: SlotStack<Item = ArenaSlot<P, LinkNoGen<P, T>>>> Cha
         }
     }
 
-    // Grows to capacity for `n` links if it is less. Tests the greatest index before the maximum.
     pub(crate) fn grow_to_hold(&mut self, n: usize) -> Result<(), ReallocationError>
         ensures grown { SucceedsOrRefuses n P.Inx.greatest self.old.maximum
             (ReachesCapacity S.may_reach P.Inx.greatest n self.old self.new)
@@ -88,7 +84,6 @@ impl<P: PtrKey, T: Drop, S: SlotStack<Item = ArenaSlot<P, LinkNoGen<P, T>>>> Cha
     }
 }
 
-// Moves all links of a source, for which the capacity suffices, to the target, chain by chain.
 fn transfer_links<
     P: PtrKey,
     T: Drop,
@@ -112,7 +107,6 @@ fn transfer_links<
     let mut is_cyclic = false;
     let mut ends = None;
     for k in 0..source.len() {
-        // A chain that begins has no link in the target yet.
         let arranged = on.and(ends);
         let taken = take_next::<Q, U, A>(source, &mut advancer, on, is_cyclic);
         let to = pointer_at::<P>(k + 1, generation);
@@ -134,8 +128,6 @@ fn pointer_at<P: PtrKey>(index: usize, generation: P::Gen) -> P
     }
 }
 
-// Returns the links beside a new one at `i`, at the end of a chain: after its last link, and in a
-// cyclic chain before its first.
 fn beside_end<P: PtrKey>(
     is_cyclic: bool,
     ends: Option<(P::Inx, P::Inx)>,
@@ -155,7 +147,6 @@ fn beside_end<P: PtrKey>(
     }
 }
 
-// Returns the ends of a chain after an insertion at its end.
 fn with_end<I: InxKey>(ends: Option<(I, I)>, i: I) -> Option<(I, I)>
     ensures { (m : ℕ) → AreEnds I.number ends m (I.number i)
         → AreEnds I.number result (m + 1) (I.number i + 1) }
@@ -166,8 +157,6 @@ fn with_end<I: InxKey>(ends: Option<(I, I)>, i: I) -> Option<(I, I)>
     }
 }
 
-// Inserts a link at the end of a chain with these ends, at the index of `to`, and returns the new
-// ends.
 fn append_link<P: PtrKey, T: Drop, S: SlotStack<Item = ArenaSlot<P, LinkNoGen<P, T>>>>(
     target: &mut ChainArena<P, T, S>,
     is_cyclic: bool,
@@ -189,8 +178,7 @@ fn append_link<P: PtrKey, T: Drop, S: SlotStack<Item = ArenaSlot<P, LinkNoGen<P,
     with_end(ends, i)
 }
 
-/// States that a compression and a transfer arrange the same links alike: at the same indexes, with
-/// the same neighbors.
+/// States that compressions and transfers give links the same indexes and neighbors.
 pub fn compression_and_transfer_agree<
     P: PtrKey,
     T: Drop,
@@ -201,21 +189,13 @@ pub fn compression_and_transfer_agree<
     ensures { ArrangesAlike Q.key P.key Q.Gen.first Q.Gen.following Q.Gen.wraps F.FnMut }
 {}
 
-/// States that a canonical compression moves each value from a pointer that was valid to one that
-/// is.
-///
-/// No other pointer was or is valid. This holds in any arena of links, whether or not a call
-/// reports the pointers.
+/// States that canonical compressions move values between valid pointers.
 pub fn compression_moves_pointers<P: PtrKey, T: Drop>()
     ensures moves { CompressionMovesPointers T P.key P.Gen.first P.Gen.following }
     ensures exists { CompressionHasMoves T P.Gen.first P.Gen.following }
 {}
 
-/// States that a transfer moves each link from a pointer that was valid in the source to one that
-/// is valid in the target.
-///
-/// The closure is passed the value in the source, and returns the value in the target. No other
-/// pointer was valid in the source or is valid in the target.
+/// States that transfers move links between valid pointers.
 pub fn transfer_moves_pointers<
     P: PtrKey,
     T: Drop,

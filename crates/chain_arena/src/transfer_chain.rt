@@ -1,4 +1,3 @@
-// The transfer of one chain to another arena.
 ghost use Rattle.std.specs.Prelude.{◌≡◌, ◌≤◌, ◌<◌, ◌^◌, ◌+◌, ◌↔◌, ℕ, length, None, Some, List, IsOk, IsTrue, MatchOption};
 ghost use Rattle.std.specs.Option.{option_map};
 ghost use Rattle.arena_core.specs.Invalidation.{value_in, is_overflow};
@@ -20,28 +19,19 @@ use chain_links::LinkNoGen;
 use chain_links::links::is_index;
 
 impl<P: PtrKey, T: Drop, S: SlotStack<Item = ArenaSlot<P, LinkNoGen<P, T>>>> ChainArena<P, T, S> {
-    /// Moves the chain of `p` to another arena, and returns the new pointer of its link, or `None`
-    /// if `p` is not valid.
+    /// Moves the chain of `p` to another arena and returns its new pointer, or `None` if `p` is not
+    /// valid.
     ///
-    /// The links are moved in walk order: from `p` to the end, then from the link before `p` back
-    /// to the start; a cyclic chain once around. They keep their neighbors, and the chain stays
-    /// linear or cyclic. Every other chain of both arenas stays.
-    ///
-    /// In that order, the closure is passed each link's old pointer, value and new pointer, once,
-    /// and returns the new value. The new pointers are those of insertions one after another. A
-    /// value comes as `GenerationOverflow` if its removal overflowed the counter of this arena.
-    ///
-    /// Does not allocate if `target` has capacity for the links. Otherwise it grows first.
+    /// In walk order, the closure maps old pointer, old value (`GenerationOverflow` if this counter
+    /// wrapped) and new pointer. Allocates only if `target` lacks capacity.
     ///
     /// # Errors
     ///
-    /// - `AllocError`: `target` would have more links than the greatest index.
-    /// - `BeyondMaxCapacity`: `target` would have more links than its maximum.
+    /// - `AllocError`: `target` would exceed the greatest index.
+    /// - `BeyondMaxCapacity`: `target` would exceed its maximum.
     /// - `AllocError`: an allocation failed.
     ///
-    /// On error nothing has changed in either arena, and the closure was not called.
-    ///
-    /// Not in `triple_arena`.
+    /// On error, nothing changes.
     ///
     /// # Examples
     ///
@@ -87,7 +77,6 @@ impl<P: PtrKey, T: Drop, S: SlotStack<Item = ArenaSlot<P, LinkNoGen<P, T>>>> Cha
         }
     }
 
-    // Returns the number of links of the chain of `p`, or `None` if `p` is not valid.
     fn chain_len(&self, p: P) -> Option<usize>
         ensures { MatchOption result (IsValid (entry self.now) (P.key p) → ⊥)
             (λ n. IsValid (entry self.now) (P.key p)
@@ -96,7 +85,6 @@ impl<P: PtrKey, T: Drop, S: SlotStack<Item = ArenaSlot<P, LinkNoGen<P, T>>>> Cha
         self.invariants();
         match self.iter_chain(p) {
             Some(links) => {
-                // There are fewer links than `usize::MAX`.
                 self.len();
                 Some(count_links(links))
             }
@@ -104,7 +92,6 @@ impl<P: PtrKey, T: Drop, S: SlotStack<Item = ArenaSlot<P, LinkNoGen<P, T>>>> Cha
         }
     }
 
-    // Returns the pointer that the next insertion returns; there must be capacity for it.
     fn next_pointer(&self) -> P
         requires { entry_count self.now < self.now.capacity }
         ensures { P.key result ≡ (next_index self.now, self.now.counter) }
@@ -112,7 +99,6 @@ impl<P: PtrKey, T: Drop, S: SlotStack<Item = ArenaSlot<P, LinkNoGen<P, T>>>> Cha
         self.arena.next_ptr()
     }
 
-    // Grows to capacity for `n` more links if it is less.
     fn grow_by(&mut self, n: usize) -> Result<(), ReallocationError>
         ensures grown { SucceedsOrRefuses (entry_count self.old + n) P.Inx.greatest self.old.maximum
             (ReachesCapacity S.may_reach P.Inx.greatest (entry_count self.old + n) self.old
@@ -133,7 +119,6 @@ impl<P: PtrKey, T: Drop, S: SlotStack<Item = ArenaSlot<P, LinkNoGen<P, T>>>> Cha
     }
 }
 
-// Returns the number of links left.
 fn count_links<P: PtrKey, T: Drop, S: SlotStack<Item = ArenaSlot<P, LinkNoGen<P, T>>>>(
     links: ChainIter<'_, P, T, S>,
 ) -> usize
@@ -143,18 +128,15 @@ fn count_links<P: PtrKey, T: Drop, S: SlotStack<Item = ArenaSlot<P, LinkNoGen<P,
     links.count()
 }
 
-// A link that was removed from its chain.
 #[derive(Drop)]
 struct RemovedLink<P: PtrKey, T: Drop> {
     ptr: P,
     value: InvalidationOption<T>,
-    // Whether it was its own next link, as the last one of a ring is.
+    // Whether it was its own next link.
     closes: bool,
-    // Whether it had no next link.
     is_end: bool,
 }
 
-// Returns the pointer and value of a removed link, and what its next link was.
 fn removed_link<P: PtrKey, T: Drop>(
     gone: InvalidationOption<(P, LinkNoGen<P, T>)>,
 ) -> RemovedLink<P, T>
@@ -176,8 +158,6 @@ fn removed_link<P: PtrKey, T: Drop>(
     }
 }
 
-// Moves the chain of a valid pointer to an arena whose capacity suffices, and returns the new
-// pointer of its link.
 fn move_chain<
     P: PtrKey,
     T: Drop,
@@ -212,8 +192,6 @@ fn move_chain<
     q
 }
 
-// Inserts a link at an end of the links moved so far, or between both ends, at the index of `to`.
-// Returns the new ends.
 fn insert_moved<P: PtrKey, T: Drop, S: SlotStack<Item = ArenaSlot<P, LinkNoGen<P, T>>>>(
     target: &mut ChainArena<P, T, S>,
     closes: bool,
@@ -240,8 +218,6 @@ fn insert_moved<P: PtrKey, T: Drop, S: SlotStack<Item = ArenaSlot<P, LinkNoGen<P
     with_moved_end(is_back, ends, i)
 }
 
-// Returns the links beside a new one at `i`, which comes before the first moved link, after the
-// last, or between both.
 fn beside_moved<P: PtrKey>(
     closes: bool,
     is_back: bool,
@@ -268,7 +244,6 @@ fn beside_moved<P: PtrKey>(
     }
 }
 
-// Returns the ends of the moved links with a new one before the first or after the last.
 fn with_moved_end<I: InxKey>(is_back: bool, ends: Option<(I, I)>, i: I) -> Option<(I, I)>
     ensures { (ys : List ℕ) → AreEndsOf I.number ends ys
         → AreEndsOf I.number result (with_moved_link is_back ys (I.number i)) }

@@ -1,5 +1,3 @@
-// Visitors of links that get other pointers: a closure, and a list.
-
 use arena_ptr::PtrKey;
 use chain_compaction::visitor::Visitor;
 use std::alloc::Allocator;
@@ -7,7 +5,6 @@ use std::alloc::Allocator;
 /// A visitor that reports each link to a closure.
 #[derive(Drop)]
 pub struct MapVisitor<F> {
-    /// The closure.
     pub map: F,
 }
 
@@ -23,7 +20,6 @@ impl<P: PtrKey, F: FnMut(P, P) + Drop> Visitor<P> for MapVisitor<F> {
     }
 }
 
-// A visitor that lists the links, up to its capacity.
 #[derive(Drop)]
 pub(crate) struct MoveLister<P, A: Allocator> {
     pub(crate) moves: Vec<(P, P), A>,

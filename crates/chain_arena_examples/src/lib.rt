@@ -1,4 +1,4 @@
-//! Short functions on one arena type, which `docs/PROOF_GUIDE.md` explains.
+//! Functions on one arena type.
 #![tactic(auto)]
 
 pub mod named_type;

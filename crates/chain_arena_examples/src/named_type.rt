@@ -1,6 +1,3 @@
-//! Functions on a concrete arena type, `ChainArena<ToolPtr, u32>`, as explained in
-//! `docs/PROOF_GUIDE.md`.
-
 ghost use Rattle.std.specs.Prelude.{◌≡◌, None, Some, IfSome, OnSome, IfNone, IfOk, OnErr};
 ghost use Rattle.arena_core.specs.Invalidation.{value_within};
 ghost use Rattle.arena_traits.specs.Arena.{IsValid};
@@ -17,11 +14,9 @@ use arena_base::ArenaTrait;
 use arena_ptr::{AnyPointer, ChainInsertionError, InvalidationResult, ToolPtr};
 use chain_arena::{ChainArena, ChainArenaTrait, LinkInsertKind};
 
-/// Removes a link and returns its value.
+/// Removes a link and returns its value, as `GenerationOverflow` if the counter wrapped to two.
 ///
-/// The counter is incremented. If that wraps to two, the value is returned in
-/// `GenerationOverflow`: pointers that were removed long ago may be valid again. Returns
-/// `InvalidPtr` and changes nothing if `p` is not valid.
+/// `InvalidPtr`: `p` is not valid.
 pub fn remove_value(arena: &mut ChainArena<ToolPtr, u32>, p: ToolPtr) -> InvalidationResult<u32>
     ensures outcome { RemovesEntry value_state ⟦<ToolPtr as AnyPointer>⟧.pointers arena.old p
         result arena.new }
@@ -32,17 +27,13 @@ pub fn remove_value(arena: &mut ChainArena<ToolPtr, u32>, p: ToolPtr) -> Invalid
     arena.remove(p)
 }
 
-/// Inserts a link directly after `p` and returns its pointer.
-///
-/// A full arena grows first.
+/// Inserts a link directly after `p`.
 ///
 /// # Errors
 ///
 /// - `FailedLinkRequirement`: `p` is not valid.
-/// - `BeyondMaxCapacity`: growth would exceed the maximum.
-/// - `AllocError`: growth would exceed the greatest index, or an allocation failed.
-///
-/// On error, nothing changes.
+/// - `BeyondMaxCapacity`: growth exceeds the maximum.
+/// - `AllocError`: an allocation failed, or the greatest index is reached.
 pub fn insert_behind(
     arena: &mut ChainArena<ToolPtr, u32>,
     p: ToolPtr,
@@ -57,9 +48,7 @@ pub fn insert_behind(
     arena.insert_reallocating(LinkInsertKind::NextTo(p), t)
 }
 
-/// Returns the pointer of the link after `p`.
-///
-/// Returns `None` if `p` is not valid or has no next link.
+/// Returns the pointer after `p`, or `None`.
 pub fn pointer_after(arena: &ChainArena<ToolPtr, u32>, p: ToolPtr) -> Option<ToolPtr>
     ensures some { IfSome result (λ q. IsValid (entry arena.now) (key_of q)
         × (next_of (link_map arena.now) (key_of p).0 ≡ Some (key_of q).0)) }

@@ -1,4 +1,3 @@
--- Links whose values have an owner beside a key.
 use Rattle.std.specs.Prelude.{◌≡◌, ℕ, List, Option, None, Some}
 use Rattle.std.specs.Option.{option_map}
 use Rattle.chain_laws.specs.Chains.{LinkMap, IsMember}
@@ -7,7 +6,7 @@ use Rattle.arena_traits.specs.Arena.{IsValid}
 use Rattle.arena_traits.specs.Entries.{ArenaView}
 
 module _ {A Gen K P : Type 0} (view : A → ArenaView Gen (K × P)) (entry : A → ℕ → Option (Gen × (K × P))) (interlinks : A → LinkMap) where
-  -- Each link of the chain of the link at i has the owner. Only the entries of that chain change.
+  -- Each link of the chain of i has the owner; other entries stay.
   pub record GivesOwners (old : A) (i : ℕ) (owner : P) (new : A) : Type 0 where
     pub walk : List ℕ
     pub is_walk : IsWalk (interlinks old) i walk

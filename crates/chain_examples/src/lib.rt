@@ -1,4 +1,4 @@
-//! Short functions on any arena of links, which `docs/PROOF_GUIDE.md` explains.
+//! Functions on any arena of links.
 #![tactic(auto)]
 
 pub mod tutorial;

@@ -1,7 +1,4 @@
-//! Short functions on any arena of links, proved from the contract of `ChainArenaTrait` alone.
-//!
-//! `docs/PROOF_GUIDE.md` explains them. Only the last two, `after` and `set_owners`, need a proof
-//! written by hand.
+//! Functions proved from the contract of `ChainArenaTrait` alone.
 
 ghost use Rattle.std.specs.Prelude.{◌≡◌, ◌↔◌, ℕ, List, None, Some, IsSome, IfSome, IfNone, IsTrue, IsFalse, IfOk, OnErr};
 ghost use Rattle.std.specs.Option.{option_map};
@@ -37,11 +34,10 @@ pub fn connect_pair<P: PtrKey, T: Drop, A: ChainArenaTrait<P, T>>(arena: &mut A,
     }
 }
 
-/// Removes the link at index `i` and returns the index of the link after it, if there is one.
+/// Removes the link at `i` and returns the next index, if any, as `GenerationOverflow` if the
+/// counter wrapped.
 ///
-/// The counter is incremented. If that wraps to two, the index is returned in
-/// `GenerationOverflow`: pointers that were removed long ago may be valid again. Returns
-/// `InvalidPtr` and changes nothing if there is no link at `i`.
+/// `InvalidPtr`: there is no link at `i`.
 pub fn remove_and_step<P: PtrKey, T: Drop, A: ChainArenaTrait<P, T>>(
     arena: &mut A,
     i: P::Inx,
@@ -63,9 +59,7 @@ pub fn remove_and_step<P: PtrKey, T: Drop, A: ChainArenaTrait<P, T>>(
     }
 }
 
-/// Connects the end `p` of a linear chain to its start `q`, so that the chain becomes cyclic.
-///
-/// Returns whether it succeeded. On failure, the arena is unchanged.
+/// Connects the end `p` of a chain to its start `q`, and returns whether it succeeded.
 pub fn close<P: PtrKey, T: Drop, A: ChainArenaTrait<P, T>>(arena: &mut A, p: P, q: P) -> bool
     ensures closed { IsTrue result
         ↔ CanConnect (A.entry arena.old) (A.interlinks arena.old) (P.key p) (P.key q) }
@@ -82,17 +76,13 @@ pub fn close<P: PtrKey, T: Drop, A: ChainArenaTrait<P, T>>(arena: &mut A, p: P, 
     }
 }
 
-/// Inserts a link directly after `p` and returns its pointer.
-///
-/// A full arena grows first.
+/// Inserts a link directly after `p`.
 ///
 /// # Errors
 ///
 /// - `FailedLinkRequirement`: `p` is not valid.
-/// - `BeyondMaxCapacity`: growth would exceed the maximum.
-/// - `AllocError`: growth would exceed the greatest index, or an allocation failed.
-///
-/// On error, nothing changes.
+/// - `BeyondMaxCapacity`: growth exceeds the maximum.
+/// - `AllocError`: an allocation failed, or the greatest index is reached.
 pub fn put_behind<P: PtrKey, T: Drop, A: ChainArenaTrait<P, T>>(
     arena: &mut A,
     p: P,
@@ -107,9 +97,7 @@ pub fn put_behind<P: PtrKey, T: Drop, A: ChainArenaTrait<P, T>>(
     arena.insert_reallocating(LinkInsertKind::NextTo(p), t)
 }
 
-/// Returns the current pointer of the link after `p`.
-///
-/// Returns `None` if `p` is not valid or has no next link.
+/// Returns the pointer after `p`, or `None`.
 pub fn after<P: PtrKey, T: Drop, A: ChainArenaTrait<P, T>>(arena: &A, p: P) -> Option<P>
     ensures next { IfSome result (λ q. IsValid (A.entry arena.now) (P.key q)
         × (next_of (A.interlinks arena.now) (P.key p).0 ≡ Some (P.key q).0)) }
@@ -122,9 +110,7 @@ pub fn after<P: PtrKey, T: Drop, A: ChainArenaTrait<P, T>>(arena: &A, p: P) -> O
     }
 }
 
-/// Gives each link of the chain of `p` another owner, which is the second part of its value.
-///
-/// Returns `None` and changes nothing if `p` is not valid.
+/// Sets the owner of the chain of `p`; `None` if `p` is not valid.
 pub fn set_owners<P: PtrKey, K: Drop, A: ChainArenaTrait<P, (K, P)>>(
     arena: &mut A,
     p: P,

@@ -9,7 +9,6 @@ use Rattle.chain_links.specs.ChainArena.{LinkView, link_map, entry, link_value, 
 use Rattle.chain_links.specs.Walkers.{index_and_entry, IsPassing}
 use Rattle.chain_links.proofs.MappedArenaLemmas.{entry_at-with_each}
 
--- A lookup that returns `None` finds no link.
 module _ {Gen T : Type 0} (i : ℕ) where
   pub read_none : (o : Option (Gen × LinkView T)) → None ≡ option_map (index_and_entry i) o → o ≡ None
   read_none None states = refl
@@ -22,7 +21,6 @@ module _ {Gen T : Type 0} (a : Arena Gen (LinkView T)) where
     stored = ap (entry a) at ∙ entry_at-with_each link_value a i ∙ ap (option_map (on_value link_value)) stored;
   }
 
-  -- The next index of the advancer has no link.
   module _ (start i : ℕ) (none : entry_at a i ≡ None) where
     no_entry : entry a i ≡ None
     no_entry = entry_at-with_each link_value a i ∙ ap (option_map (on_value link_value)) none
@@ -35,7 +33,6 @@ module _ {Gen T : Type 0} (a : Arena Gen (LinkView T)) where
     ends_back zero = tt
     ends_back (suc left) = no_entry
 
--- One call, by its step.
 module _ {Gen T : Type 0} (entry : ℕ → Option (Gen × T)) (interlinks : LinkMap) (start : ℕ) (forward back : Option ℕ) where
   pub is_passed : (left : ℕ) (p : ℕ × Gen) (forward_then back_then : Option ℕ) → (left ≡ 0 → ⊥) → IsValid entry p
       → ((n : ℕ) → next_step (suc n) interlinks start forward back ≡ Some (p.0, record { left = n; start = start; forward = forward_then; back = back_then }))

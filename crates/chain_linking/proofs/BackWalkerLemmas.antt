@@ -1,4 +1,4 @@
--- A walker backwards: the way to the end of its chain, and the links that it reaches.
+-- Walkers backwards.
 use Rattle.std.specs.Prelude.{◌≡◌, ℕ, zero, suc, ◌<◌, ◌≤◌, eqb, Bool, true, false, if◌then◌else◌, List, [], ◌∷◌, reverse, length, Option, None, Some, IfSome}
 use Rattle.std.proofs.Common.{refl, ap, sym, ◌∙◌, subst, inl, inr, arith, length-append}
 use Rattle.chain_laws.specs.Chains.{LinkMap, IsWellLinked, HasLink, HasLinksWithin, IsMember, AreLinked, prev_in, next_in, next_of, last_or}

@@ -73,7 +73,6 @@ module _ {Gen T : Type 0} where
   link_map-joined : (a : Arena Gen (LinkView T)) (i j : ℕ) → link_map (with_link_map a (with_join (link_map a) i j)) ≡ with_join (link_map a) i j
   link_map-joined a i j = link_map-with_link_map a (with_join (link_map a) i j) (FitsLinks-linked a (Some i) (Some j))
 
-  -- The join of two links that may be joined.
   module _ (a b : Arena Gen (LinkView T)) (p q : ℕ × Gen) (can : CanConnect (entry_at (values_of a)) (link_map a) p q) (is_joined : b ≡ with_link_map a (with_join (link_map a) p.0 q.0)) where
     pub links : link_map b ≡ with_join (link_map a) p.0 q.0
     links = ap (λ (x : Arena Gen (LinkView T)). link_map x) is_joined ∙ link_map-joined a p.0 q.0

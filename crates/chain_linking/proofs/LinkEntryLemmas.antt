@@ -13,7 +13,6 @@ pub if_some : {A : Type 0} {P Q : A → Type 0} (o : Option A) → ((x : A) → 
 if_some None then given = tt
 if_some (Some x) then given = then x given
 
--- The entry and the interlinks at an index.
 module _ {Gen K T : Type 0} (number : K → Option ℕ) (a : Arena Gen (RawLink K T)) (i : ℕ) where
   pub stored-view_after : (g : Gen) (link : RawLink K T) → entry_at a i ≡ Some (g, link) → entry (links_view number a) i ≡ Some (g, link.t)
   stored-view_after g link stored = value_at number a i ∙ ap (option_map (on_value (λ l. l.t))) stored

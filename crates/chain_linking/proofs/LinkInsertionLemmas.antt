@@ -1,4 +1,4 @@
--- The insertion of a link between two others in the state of an arena.
+-- The insertion of a link between two others.
 use Rattle.std.proofs.Common.{◌≡◌, ℕ, Bool, true, false, Option, Some, refl, ap, sym, ◌∙◌, subst, ⊎_elim}
 use Rattle.std.specs.Prelude.{◌==◌, if◌then◌else◌, is_some, IfSome}
 use Rattle.std.proofs.lemmas.Bool.{cases_eq}
@@ -50,7 +50,6 @@ module _ {Gen T : Type 0} (a : Arena Gen (LinkView T)) (free : AreFree a.slots a
       ∙ (ap (λ (m : LinkMap). with_link_map (with_link_map base named) (with_prev_at (with_next_at m u (Some q)) v (Some q))) (link_map-with_link_map base named fits)
       ∙ (with_link_map-again base named (with_prev_at (with_next_at named u (Some q)) v (Some q)) fits ∙ ap (with_link_map base) (inserted_by_writes (link_map a) q u v itself)))
 
--- An insertion in the stored arena of links.
 module _ {Gen K T : Type 0} (packed : K → Option ℕ) (a b : Arena Gen (RawLink K T)) (d : Arena Gen (LinkView T)) (u v : Option ℕ) (t : T) (link : RawLink K T)
     (listed : IsListed a) (link_is : link_view packed link ≡ new_link t u v) (itself : u ≡ Some (next_index (links_view packed a)) → v ≡ Some (next_index (links_view packed a))) where
   pub inserted_beside : b ≡ insert_next a link → d ≡ with_links_to (links_view packed b) u v (next_index (links_view packed a)) → d ≡ insert_between (links_view packed a) t u v
@@ -60,7 +59,6 @@ module _ {Gen K T : Type 0} (packed : K → Option ℕ) (a b : Arena Gen (RawLin
       ∙ (ap named (links_view-insert_next packed a link ∙ ap (insert_next (links_view packed a)) link_is)
       ∙ placed (links_view packed a) (listed-links_view packed a listed).free t u v itself))
 
--- The entries after the insertion of a link.
 module _ {Gen T : Type 0} (a : Arena Gen (LinkView T)) (free : AreFree a.slots a.freed) (l : LinkView T) where
   abbrev entry_after : ℕ → Option (Gen × LinkView T)
   entry_after i = if i == next_index a then Some (a.counter, l) else entry_at a i

@@ -28,7 +28,6 @@ steps_unless start (Some k) back apart = (sym (if_other k start _ _ other), sym 
 pub steps_nowhere : (start : ℕ) (next back : Option ℕ) → next ≡ Some start → (None ≡ step_forward start next) × (None ≡ step_back start next back)
 steps_nowhere start next back is = rw is (sym (if_same start start _ _ refl), sym (if_same start start _ _ refl))
 
--- The interlinks of a link that is read.
 module _ {Gen K T : Type 0} (number : K → Option ℕ) (a : Arena Gen (RawLink K T)) (i : ℕ) (link : RawLink K T) (stored : option_map (λ (e : Gen × RawLink K T). e.1) (entry_at a i) ≡ Some link) where
   prev_by : (o : Option (Gen × RawLink K T)) → option_map (λ (e : Gen × RawLink K T). e.1) o ≡ Some link → prev_in (option_map interlinks_of (option_map (pair_view number) o)) ≡ number link.prev
   prev_by None is = absurd (let h = is in cc)

@@ -1,4 +1,4 @@
--- A move of a run as pairs written one after another, in the state of an arena.
+-- A move of a run as pairs written in order.
 use Rattle.std.specs.Prelude.{◌≡◌, ℕ, Option, None, Some}
 use Rattle.std.proofs.Common.{refl, ap, ap₂, sym, ◌∙◌, subst, ⊎_elim}
 use Rattle.std.proofs.lemmas.Bool.{cases_eq}

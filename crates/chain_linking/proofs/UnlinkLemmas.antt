@@ -69,7 +69,6 @@ module _ {Gen T : Type 0} where
   pub passes_over : (following : Gen → Gen) (a b : Arena Gen (LinkView T)) (i : ℕ) → b ≡ remove_link following a i → link_map b ≡ with_removal (link_map a) i
   passes_over following a b i gone = ap (λ (x : Arena Gen (LinkView T)). link_map x) gone ∙ link_map-remove_link following a i
 
-  -- The state after a removal.
   module _ (following : Gen → Gen) (a b : Arena Gen (LinkView T)) (i : ℕ) (gone : b ≡ remove_link following a i) (agrees : IsWellLinked (link_map a)) where
     pub removed-agrees : IsWellLinked (link_map b)
     removed-agrees = subst IsWellLinked (sym (passes_over following a b i gone)) (removed_agrees (link_map a) i agrees)

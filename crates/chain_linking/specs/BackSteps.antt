@@ -1,4 +1,3 @@
--- Walkers backwards along a chain, step by step, in an arena that may change between the steps.
 use Rattle.std.specs.Prelude.{◌≡◌, ℕ, zero, suc, List, Option, None, Some, IfSome, IfNone}
 use Rattle.std.specs.Option.{option_map}
 use Rattle.chain_laws.specs.Chains.{prev_of}
@@ -7,23 +6,22 @@ use Rattle.arena_traits.specs.Arena.{Arena, IsValid}
 use Rattle.chain_links.specs.ChainArena.{LinkView, link_map, entry}
 use Rattle.chain_links.specs.Walkers.{end_in}
 
--- A walker backwards: how many steps are left at most, where it began, and where it goes.
+-- The most steps left, where it began, and where it goes.
 pub record BackWalker : Type 0 where
   pub left : ℕ
   pub start : ℕ
   pub at : Option ℕ
 
--- A walker backwards about to pass the link at i.
+-- A walker backwards at i.
 abbrev pub back_walker_at : ℕ → ℕ → BackWalker
 back_walker_at left i = record { left = left; start = i; at = Some i }
 
--- The walker backwards of an advancer, with its indexes as numbers.
+-- An advancer's walker backwards.
 abbrev pub back_walker_of : {I : Type 0} → (I → ℕ) → ℕ → I → Option I → BackWalker
 back_walker_of number left start at = record { left = left; start = number start; at = option_map number at }
 
 module _ {Gen T : Type 0} (a : Arena Gen (LinkView T)) where
-  -- The link passed next, if any, and the walker after it: on to the link before or, at the start of
-  -- a chain, to the end of the chain of `start`.
+  -- The link passed next, if any, and the walker after it.
   abbrev pub next_step_back : ℕ → ℕ → Option ℕ → Option (ℕ × BackWalker)
   next_step_back zero start at = None
   next_step_back (suc left) start None = None
@@ -36,19 +34,17 @@ module _ {Gen T : Type 0} (a : Arena Gen (LinkView T)) where
   abbrev pub passes_back : BackWalker → List ℕ
   passes_back w = back_ahead w.left (link_map a) w.start (end_in a w.start) w.at
 
-  -- One call of an advancer backwards: it passes the link at its next step and takes the step;
-  -- without such a link it has no steps left.
+  -- A call of an advancer backwards takes one step, or none is left.
   pub record IsPassingBack (old : BackWalker) (returned : Option (ℕ × Gen)) (new : BackWalker) : Type 0 where
     pub passed : IfSome returned (λ p. IsValid (entry a) p × (step_back_of old ≡ Some (p.0, new)))
     pub spent : IfNone returned (new.left ≡ 0)
     pub end : IfNone returned (IfSome (step_back_of old) (λ step. entry a step.0 ≡ None))
 
--- One step, for any number of steps left.
 module _ {I Gen T : Type 0} (number : I → ℕ) (a : Arena Gen (LinkView T)) (start : I) (at : Option I) where
-  -- The walker passes the link at i and goes on from there.
+  -- The walker passes i.
   abbrev pub PassesBack : ℕ → Option I → Type 0
   PassesBack i onward = (left : ℕ) → next_step_back a (suc left) (number start) (option_map number at) ≡ Some (i, back_walker_of number left start onward)
 
-  -- The next index, if there is one, has no entry.
+  -- The next index, if any, has no entry.
   abbrev pub PassesNoneBack : Type 0
   PassesNoneBack = (left : ℕ) → IfSome (next_step_back a left (number start) (option_map number at)) (λ step. entry a step.0 ≡ None)

@@ -1,4 +1,3 @@
--- Reversals of a chain in the state of an arena.
 use Rattle.std.specs.Prelude.{◌≡◌, ℕ, List, length, Option, Some}
 use Rattle.std.specs.Option.{option_map}
 use Rattle.arena_traits.specs.Arena.{Arena}
@@ -11,20 +10,18 @@ use Rattle.chain_links.specs.declared.links.RawLink.{RawLink}
 use Rattle.chain_linking.specs.LinkWrites.{LinksBecome}
 
 module _ {Gen T : Type 0} where
-  -- The interlinks of the link at i trade places.
+  -- The interlinks at i trade places.
   abbrev pub arena_with_turn : Arena Gen (LinkView T) → ℕ → Arena Gen (LinkView T)
   arena_with_turn a i = with_link_map a (with_turn (link_map a) i)
 
-  -- Those of the links at these indexes do, one after another.
   abbrev pub arena_with_turns : Arena Gen (LinkView T) → List ℕ → Arena Gen (LinkView T)
   arena_with_turns a walk = with_link_map a (with_turns (link_map a) walk)
 
-  -- The walk from the link at i.
   abbrev pub walk_at : Arena Gen (LinkView T) → ℕ → List ℕ
   walk_at a i = walk_ahead (length a.slots) (link_map a) i (Some i) (prev_of (link_map a) i)
 
 module _ {Gen K T : Type 0} (packed : K → Option ℕ) where
-  -- The link at i is turned, and its former interlinks are returned.
+  -- The link at i is turned; its former interlinks are returned.
   abbrev pub TurnsLink : {I : Type 0} → (I → ℕ) → ℕ → Arena Gen (RawLink K T) → Option I × Option I → Arena Gen (RawLink K T) → Type 0
   TurnsLink number i old result new = record {
     prev : option_map number result.0 ≡ prev_of (link_map (links_view packed old)) i;
@@ -32,6 +29,6 @@ module _ {Gen K T : Type 0} (packed : K → Option ℕ) where
     links : LinksBecome packed (arena_with_turn (links_view packed old) i) old new;
   }
 
-  -- The links of the walk from i are turned.
+  -- The walk from i is turned.
   abbrev pub TurnsWalk : ℕ → (old new : Arena Gen (RawLink K T)) → Type 0
   TurnsWalk i old new = LinksBecome packed (arena_with_turns (links_view packed old) (walk_at (links_view packed old) i)) old new

@@ -1,4 +1,3 @@
--- The positions of a walk along a chain.
 use Rattle.std.specs.Prelude.{ℕ, Option, IfSome}
 use Rattle.chain_laws.specs.Chains.{LinkMap, IsWellLinked, HasLink}
 
@@ -8,7 +7,7 @@ pub record IsOnLinks (link_map : LinkMap) (forward back : Option ℕ) : Type 0 w
   pub onward : IfSome forward (HasLink link_map)
   pub behind : IfSome back (HasLink link_map)
 
--- The interlinks agree, and the links at which a walker backwards began and goes on exist.
+-- The same for a walker backwards.
 pub record IsOnLinksBack (link_map : LinkMap) (start : ℕ) (at : Option ℕ) : Type 0 where
   pub agrees : IsWellLinked link_map
   pub began : HasLink link_map start

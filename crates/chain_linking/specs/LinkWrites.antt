@@ -1,4 +1,3 @@
--- Writes to interlinks in the state of an arena, which change nothing else.
 use Rattle.std.specs.Prelude.{◌≡◌, ◌≢◌, ℕ, Bool, IsSome, IfSome, Option, None, Some}
 use Rattle.std.specs.Option.{option_map, option_and_then}
 use Rattle.arena_core.specs.Invalidation.{value_within, invalidation_result}
@@ -10,20 +9,19 @@ use Rattle.chain_links.specs.declared.links.RawLink.{RawLink}
 use Rattle.chain_links.specs.ChainArena.{LinkView, link_map, with_link_map, remove_link, entry, ptr_at}
 use Rattle.chain_links.specs.Links.{link_view, links_view, pair_view, StayAtRest}
 
--- Two optional indexes as numbers.
 abbrev pub numbers : {I : Type 0} → (I → ℕ) → Option I × Option I → Option ℕ × Option ℕ
 numbers number p = (option_map number p.0, option_map number p.1)
 
 module _ {Gen T : Type 0} where
-  -- The `next` of the link at i is written.
+  -- The `next` at i is written.
   abbrev pub arena_with_next : Arena Gen (LinkView T) → Option ℕ → Option ℕ → Arena Gen (LinkView T)
   arena_with_next a i next = with_link_map a (with_next_at (link_map a) i next)
 
-  -- The `prev` of the link at i is written.
+  -- The `prev` at i is written.
   abbrev pub arena_with_prev : Arena Gen (LinkView T) → Option ℕ → Option ℕ → Arena Gen (LinkView T)
   arena_with_prev a i prev = with_link_map a (with_prev_at (link_map a) i prev)
 
-  -- The `next` of the link at u is written, then the `prev` of the link at v.
+  -- The `next` at u, then the `prev` at v is written.
   abbrev pub arena_with_both : Arena Gen (LinkView T) → (u next v prev : Option ℕ) → Arena Gen (LinkView T)
   arena_with_both a u next v prev = with_link_map a (with_prev_at (with_next_at (link_map a) u next) v prev)
 
@@ -31,12 +29,11 @@ module _ {Gen T : Type 0} where
   abbrev pub arena_with_pair : Arena Gen (LinkView T) → Option ℕ → Option ℕ → Arena Gen (LinkView T)
   arena_with_pair a u v = with_link_map a (with_neighbors (link_map a) u v)
 
-  -- The pair p is linked, then the pair q.
+  -- p is linked, then q.
   abbrev pub arena_with_pairs : Arena Gen (LinkView T) → Option ℕ × Option ℕ → Option ℕ × Option ℕ → Arena Gen (LinkView T)
   arena_with_pairs a p q = with_link_map a (with_neighbors (with_neighbors (link_map a) p.0 p.1) q.0 q.1)
 
--- u and v were beside the link removed from i: they have links, or both are i, which was alone
--- in a ring.
+-- u and v, beside the link removed from i, have links, or both are i.
 pub record WereBeside (link_map : LinkMap) (i : ℕ) (u v : Option ℕ) : Type 0 where
   pub gone : link_map i ≡ None
   pub before : u ≢ Some i → IfSome u (HasLink link_map)
@@ -44,21 +41,21 @@ pub record WereBeside (link_map : LinkMap) (i : ℕ) (u v : Option ℕ) : Type 0
   pub ring : u ≡ Some i → v ≡ Some i
 
 module _ {Gen K T : Type 0} (packed : K → Option ℕ) where
-  -- The links become those of `after`. If none had a destination, none has one now.
+  -- The links become those of `after`, without new destinations.
   abbrev pub LinksBecome : Arena Gen (LinkView T) → (old new : Arena Gen (RawLink K T)) → Type 0
   LinksBecome after old new = record {
     links : links_view packed new ≡ after;
     at_rest : StayAtRest packed old.slots new.slots;
   }
 
-  -- The pointers are those of the links before and after a link.
+  -- The pointers to a link's neighbors.
   abbrev pub PointsToNeighbors : {P : Type 0} → (P → ℕ × Gen) → Arena Gen (RawLink K T) → RawLink K T → Option P × Option P → Type 0
   PointsToNeighbors key a link result = record {
     prev : option_map key result.0 ≡ option_and_then (ptr_at (entry (links_view packed a))) (link_view packed link).prev;
     next : option_map key result.1 ≡ option_and_then (ptr_at (entry (links_view packed a))) (link_view packed link).next;
   }
 
-  -- The link at i, if any, is removed and returned as it was, and its former neighbors are linked.
+  -- The link at i, if any, is removed and returned, and its former neighbors are linked.
   abbrev pub TakesLinkAt : (wraps : Gen → Bool) (following : Gen → Gen) → ℕ → Arena Gen (RawLink K T) → InvalidationResult (Gen × RawLink K T) → Arena Gen (RawLink K T) → Type 0
   TakesLinkAt wraps following i old result new = record {
     returned : option_map (pair_view packed) (value_within result) ≡ entry_at (links_view packed old) i;
@@ -69,15 +66,15 @@ module _ {Gen K T : Type 0} (packed : K → Option ℕ) where
   }
 
   module _ {I : Type 0} (number : I → ℕ) where
-    -- The `next` of the link at i, if i is an index, is written.
+    -- The `next` at i, if any, is written.
     abbrev pub SetsNext : (i next : Option I) → (old new : Arena Gen (RawLink K T)) → Type 0
     SetsNext i next old new = LinksBecome (arena_with_next (links_view packed old) (option_map number i) (option_map number next)) old new
 
-    -- The `prev` of the link at i, if i is an index, is written.
+    -- The `prev` at i, if any, is written.
     abbrev pub SetsPrev : (i prev : Option I) → (old new : Arena Gen (RawLink K T)) → Type 0
     SetsPrev i prev old new = LinksBecome (arena_with_prev (links_view packed old) (option_map number i) (option_map number prev)) old new
 
-    -- The `next` of the link at `before` is written, then the `prev` of the link at `after`.
+    -- The `next` at `before`, then the `prev` at `after` is written.
     abbrev pub SetsBoth : (before next after prev : Option I) → (old new : Arena Gen (RawLink K T)) → Type 0
     SetsBoth before next after prev old new =
         LinksBecome (arena_with_both (links_view packed old) (option_map number before) (option_map number next) (option_map number after) (option_map number prev)) old new

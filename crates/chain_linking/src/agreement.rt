@@ -1,4 +1,3 @@
-// Checks whether the interlinks of an arena of links agree.
 ghost use Rattle.std.specs.Prelude.{◌↔◌, IsTrue};
 ghost use Rattle.chain_laws.specs.Chains.{IsWellLinked};
 ghost use Rattle.chain_linking.specs.Agreement.{IsWellLinkedForward, IsWellLinkedBack, IsWellLinkedAt, AreNeighborsAt};
@@ -10,7 +9,6 @@ use arena_ptr::{InxKey, PtrKey, SlotStack};
 use chain_links::LinkNoGen;
 use chain_links::links::is_index;
 
-// Returns the indexes before and after the link at `i`, both `None` if there is no link.
 fn neighbors_at<P: PtrKey, T: Drop, S: SlotStack<Item = ArenaSlot<P, LinkNoGen<P, T>>>>(
     arena: &Arena<P, LinkNoGen<P, T>, S>,
     i: P::Inx,
@@ -24,7 +22,6 @@ fn neighbors_at<P: PtrKey, T: Drop, S: SlotStack<Item = ArenaSlot<P, LinkNoGen<P
     }
 }
 
-// Returns whether the link after `i`, if any, names `i` as the one before it.
 fn next_agrees<P: PtrKey, T: Drop, S: SlotStack<Item = ArenaSlot<P, LinkNoGen<P, T>>>>(
     arena: &Arena<P, LinkNoGen<P, T>, S>,
     i: P::Inx,
@@ -39,7 +36,6 @@ fn next_agrees<P: PtrKey, T: Drop, S: SlotStack<Item = ArenaSlot<P, LinkNoGen<P,
     }
 }
 
-// Returns whether the link before `i`, if any, names `i` as the one after it.
 fn prev_agrees<P: PtrKey, T: Drop, S: SlotStack<Item = ArenaSlot<P, LinkNoGen<P, T>>>>(
     arena: &Arena<P, LinkNoGen<P, T>, S>,
     i: P::Inx,
@@ -53,7 +49,6 @@ fn prev_agrees<P: PtrKey, T: Drop, S: SlotStack<Item = ArenaSlot<P, LinkNoGen<P,
     }
 }
 
-// Returns whether each neighbor of the link at `i` names `i` in turn.
 fn agrees_at<P: PtrKey, T: Drop, S: SlotStack<Item = ArenaSlot<P, LinkNoGen<P, T>>>>(
     arena: &Arena<P, LinkNoGen<P, T>, S>,
     i: P::Inx,
@@ -64,12 +59,9 @@ fn agrees_at<P: PtrKey, T: Drop, S: SlotStack<Item = ArenaSlot<P, LinkNoGen<P, T
     next_agrees(arena, i) && prev_agrees(arena, i)
 }
 
-/// Returns whether the interlinks agree: j comes after i exactly if i comes before j.
+/// Returns whether j comes after i exactly if i comes before j.
 ///
-/// Each interlink then names a valid index. The time is linear in the number of slots, which
-/// is not proved.
-///
-/// Takes the place of `_check_interlinks` of `triple_arena`, which is hidden there.
+/// Linear in the slots, which is not proved. Replaces `_check_interlinks`.
 pub fn links_agree<P: PtrKey, T: Drop, S: SlotStack<Item = ArenaSlot<P, LinkNoGen<P, T>>>>(
     arena: &Arena<P, LinkNoGen<P, T>, S>,
 ) -> bool

@@ -1,4 +1,3 @@
-// An iterator over the links of one chain backwards.
 ghost use Rattle.std.specs.Prelude.{◌≡◌, Some, IfSome};
 ghost use Rattle.std.specs.Option.{option_map};
 ghost use Rattle.std.specs.Iterator.{YieldsFirstBy, item_count};
@@ -16,7 +15,6 @@ use chain_links::LinkNoGen;
 use chain_links::walk_direction::step_on;
 use std::marker::Model;
 
-// Returns the index after the link at `i`, unless it is `start`.
 fn next_before<P: PtrKey, T: Drop, S: SlotStack<Item = ArenaSlot<P, LinkNoGen<P, T>>>>(
     arena: &Arena<P, LinkNoGen<P, T>, S>,
     start: P::Inx,
@@ -31,8 +29,7 @@ fn next_before<P: PtrKey, T: Drop, S: SlotStack<Item = ArenaSlot<P, LinkNoGen<P,
     }
 }
 
-/// Returns the last link of the chain of `start`: the end, or the link before `start` if the chain
-/// is cyclic.
+/// Returns the end, or in a cyclic chain the link before `start`.
 pub fn end_of_chain<P: PtrKey, T: Drop, S: SlotStack<Item = ArenaSlot<P, LinkNoGen<P, T>>>>(
     arena: &Arena<P, LinkNoGen<P, T>, S>,
     start: P::Inx,
@@ -52,8 +49,6 @@ pub fn end_of_chain<P: PtrKey, T: Drop, S: SlotStack<Item = ArenaSlot<P, LinkNoG
     }
 }
 
-// Returns where a walk backwards from `start` goes from a link with this previous link: at the
-// start of a linear chain, to the end. Returns `None` if that is `start`.
 fn step_back<P: PtrKey, T: Drop, S: SlotStack<Item = ArenaSlot<P, LinkNoGen<P, T>>>>(
     arena: &Arena<P, LinkNoGen<P, T>, S>,
     start: P::Inx,
@@ -72,12 +67,7 @@ fn step_back<P: PtrKey, T: Drop, S: SlotStack<Item = ArenaSlot<P, LinkNoGen<P, T
     }
 }
 
-/// An iterator over the links of one chain backwards, each with its pointer.
-///
-/// It goes from a link back to the start, then from the end back to the link after it; a cyclic
-/// chain once around. At the start of a linear chain, one step walks on to the end.
-///
-/// Made by `ChainArena::iter_chain_back`. Not in `triple_arena`.
+/// An iterator over one chain backwards.
 #[derive(Drop)]
 pub struct ChainBackIter<
     'a,
@@ -89,7 +79,6 @@ pub struct ChainBackIter<
     start: P::Inx,
     at: Option<P::Inx>,
 
-    // The most steps still made.
     left: usize,
 }
 
@@ -113,8 +102,7 @@ impl<'a, P: PtrKey, T: Drop, S: SlotStack<Item = ArenaSlot<P, LinkNoGen<P, T>>>>
         (option_map P.Inx.number it.at) };
 }
 
-/// Returns an iterator over at most `left` links: the one at `start`, those before it back to the
-/// start or once around, and then those from the end.
+/// Returns an iterator backwards from `start`, over at most `left` links.
 pub fn iter_back_from<P: PtrKey, T: Drop, S: SlotStack<Item = ArenaSlot<P, LinkNoGen<P, T>>>>(
     arena: &Arena<P, LinkNoGen<P, T>, S>,
     start: P::Inx,

@@ -1,4 +1,3 @@
-// The next step of a walker backwards along a chain of a plain arena.
 ghost use Rattle.std.specs.Prelude.{◌≡◌, IfSome, IfNone};
 ghost use Rattle.std.specs.Option.{option_map};
 ghost use Rattle.chain_laws.specs.Chains.{IsWellLinked};
@@ -16,7 +15,6 @@ use arena_ptr::{PtrKey, SlotStack};
 use chain_links::LinkNoGen;
 use chain_links::walk_direction::step_on;
 
-// Returns the last link of the chain of `start`, or `start` if no link is there.
 fn last_of<P: PtrKey, T: Drop, S: SlotStack<Item = ArenaSlot<P, LinkNoGen<P, T>>>>(
     arena: &Arena<P, LinkNoGen<P, T>, S>,
     start: P::Inx,
@@ -31,8 +29,6 @@ fn last_of<P: PtrKey, T: Drop, S: SlotStack<Item = ArenaSlot<P, LinkNoGen<P, T>>
     }
 }
 
-// Returns where a walker backwards from `start` goes from a link with this previous link: at the
-// start of a chain, to the end. Returns `None` if that is `start`.
 fn onward<P: PtrKey, T: Drop, S: SlotStack<Item = ArenaSlot<P, LinkNoGen<P, T>>>>(
     arena: &Arena<P, LinkNoGen<P, T>, S>,
     start: P::Inx,
@@ -49,10 +45,7 @@ fn onward<P: PtrKey, T: Drop, S: SlotStack<Item = ArenaSlot<P, LinkNoGen<P, T>>>
     }
 }
 
-/// Returns the pointer of the link that a walker backwards passes next, and where the walker goes
-/// from there.
-///
-/// Returns `None` if there is no such link.
+/// Returns the next pointer of a walk backwards, and where it goes then, or `None`.
 pub fn step_backwards<P: PtrKey, T: Drop, S: SlotStack<Item = ArenaSlot<P, LinkNoGen<P, T>>>>(
     arena: &Arena<P, LinkNoGen<P, T>, S>,
     start: P::Inx,

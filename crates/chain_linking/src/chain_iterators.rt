@@ -1,4 +1,3 @@
-// An iterator over the links of one chain.
 ghost use Rattle.std.specs.Prelude.{◌≡◌, Some, IfSome};
 ghost use Rattle.std.specs.Option.{option_map};
 ghost use Rattle.std.specs.Iterator.{YieldsFirstBy, item_count};
@@ -14,12 +13,9 @@ use chain_links::LinkNoGen;
 use chain_links::links::is_index;
 use std::marker::Model;
 
-/// An iterator over the links of one chain in walk order, each with its pointer.
+/// An iterator over one chain in walk order.
 ///
-/// It goes from a link to the end, then from the link before it back to the start; a cyclic chain
-/// once around.
-///
-/// Made by `ChainArena::iter_chain`. Port of the iterator of `ChainArenaTrait::iter_chain`.
+/// Port of the iterator of `ChainArenaTrait::iter_chain`.
 #[derive(Drop)]
 pub struct ChainIter<
     'a,
@@ -32,7 +28,6 @@ pub struct ChainIter<
     forward: Option<P::Inx>,
     back: Option<P::Inx>,
 
-    // The most steps still made.
     left: usize,
 }
 
@@ -56,8 +51,7 @@ impl<'a, P: PtrKey, T: Drop, S: SlotStack<Item = ArenaSlot<P, LinkNoGen<P, T>>>>
         (option_map P.Inx.number it.forward) (option_map P.Inx.number it.back) };
 }
 
-/// Returns an iterator over at most `left` links: the one at `start`, those after it to the end or
-/// once around, and then those from `back` to the start.
+/// Returns an iterator over at most `left` links from `start`, then from `back`.
 pub fn iter_from<P: PtrKey, T: Drop, S: SlotStack<Item = ArenaSlot<P, LinkNoGen<P, T>>>>(
     arena: &Arena<P, LinkNoGen<P, T>, S>,
     start: P::Inx,
@@ -99,7 +93,6 @@ impl<'a, P: PtrKey, T: Drop, S: SlotStack<Item = ArenaSlot<P, LinkNoGen<P, T>>>>
                 Some(item) => {
                     self.left -= 1;
                     self.forward = item.1.next();
-                    // The iterator is once around.
                     if is_index(self.forward, self.start) {
                         self.left = 0;
                     }

@@ -1,4 +1,3 @@
-// Reads what is beside a link of a plain arena, connects two links, and moves runs of links.
 ghost use Rattle.std.specs.Prelude.{◌≢◌, ◌↔◌, IsTrue};
 ghost use Rattle.chain_laws.specs.Chains.{IsWellLinked, HasLink};
 ghost use Rattle.chain_links.specs.ChainArena.{link_map, entry, CanConnect};
@@ -10,7 +9,7 @@ use arena_base::{Arena, ArenaSlot, ArenaTrait, proved_unreachable};
 use arena_ptr::{PtrKey, SlotStack};
 use chain_links::LinkNoGen;
 
-/// Returns the index after the link of `p`, or `None` if either is missing.
+/// Returns the index after `p`, if both exist.
 pub fn next_of<P: PtrKey, T: Drop, S: SlotStack<Item = ArenaSlot<P, LinkNoGen<P, T>>>>(
     arena: &Arena<P, LinkNoGen<P, T>, S>,
     p: P,
@@ -23,7 +22,7 @@ pub fn next_of<P: PtrKey, T: Drop, S: SlotStack<Item = ArenaSlot<P, LinkNoGen<P,
     }
 }
 
-/// Returns the index before the link of `p`, or `None` if either is missing.
+/// Returns the index before `p`, if both exist.
 pub fn prev_of<P: PtrKey, T: Drop, S: SlotStack<Item = ArenaSlot<P, LinkNoGen<P, T>>>>(
     arena: &Arena<P, LinkNoGen<P, T>, S>,
     p: P,
@@ -36,7 +35,6 @@ pub fn prev_of<P: PtrKey, T: Drop, S: SlotStack<Item = ArenaSlot<P, LinkNoGen<P,
     }
 }
 
-// Returns whether `p` is valid and the end of a chain, and `q` valid and the start of one.
 fn can_connect<P: PtrKey, T: Drop, S: SlotStack<Item = ArenaSlot<P, LinkNoGen<P, T>>>>(
     arena: &Arena<P, LinkNoGen<P, T>, S>,
     p: P,
@@ -47,7 +45,7 @@ fn can_connect<P: PtrKey, T: Drop, S: SlotStack<Item = ArenaSlot<P, LinkNoGen<P,
 {
     match arena.get(p) {
         Some(end) => match arena.get(q) {
-            // Not `&&`: one test of both words takes fewer instructions than two.
+            // Not `&&`: one test takes fewer instructions.
             Some(start) => end.next().is_none() & start.prev().is_none(),
             None => false,
         },
@@ -55,7 +53,7 @@ fn can_connect<P: PtrKey, T: Drop, S: SlotStack<Item = ArenaSlot<P, LinkNoGen<P,
     }
 }
 
-/// Links `q` after `p`, or returns `None` and changes nothing if they cannot be connected.
+/// Links `q` after `p`, or changes nothing if they cannot be connected.
 pub fn join<P: PtrKey, T: Drop, S: SlotStack<Item = ArenaSlot<P, LinkNoGen<P, T>>>>(
     arena: &mut Arena<P, LinkNoGen<P, T>, S>,
     p: P,
@@ -70,7 +68,6 @@ pub fn join<P: PtrKey, T: Drop, S: SlotStack<Item = ArenaSlot<P, LinkNoGen<P, T>
     Some(())
 }
 
-// Returns the interlinks of the link at `i`.
 fn beside<P: PtrKey, T: Drop, S: SlotStack<Item = ArenaSlot<P, LinkNoGen<P, T>>>>(
     arena: &Arena<P, LinkNoGen<P, T>, S>,
     i: P::Inx,
@@ -84,7 +81,7 @@ fn beside<P: PtrKey, T: Drop, S: SlotStack<Item = ArenaSlot<P, LinkNoGen<P, T>>>
     }
 }
 
-/// Moves the run of links from `first` to `last` to the place after the link at `p`.
+/// Moves the run from `first` to `last` directly after the link at `p`.
 pub fn splice<P: PtrKey, T: Drop, S: SlotStack<Item = ArenaSlot<P, LinkNoGen<P, T>>>>(
     arena: &mut Arena<P, LinkNoGen<P, T>, S>,
     p: P::Inx,
@@ -109,7 +106,7 @@ pub fn splice<P: PtrKey, T: Drop, S: SlotStack<Item = ArenaSlot<P, LinkNoGen<P, 
     link_pairs(arena, (Some(p), Some(first)), (Some(last), after));
 }
 
-/// Moves the link at `i` to the place after the link at `j`, another one.
+/// Moves the link at `i` directly after another link at `j`.
 pub fn move_link<P: PtrKey, T: Drop, S: SlotStack<Item = ArenaSlot<P, LinkNoGen<P, T>>>>(
     arena: &mut Arena<P, LinkNoGen<P, T>, S>,
     i: P::Inx,

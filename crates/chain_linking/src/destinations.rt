@@ -1,11 +1,9 @@
-// Removes destinations, which no link of a chain arena has between calls.
 ghost use Rattle.chain_linking.specs.Destinations.{ClearsDestination, ClearsDestinations};
 
 use arena_base::{Arena, ArenaSlot, ArenaTrait, inx_at};
 use arena_ptr::{PtrKey, SlotStack};
 use chain_links::{LinkNoGen, link_access};
 
-// Removes the destination of the link at `i`, if any.
 fn clear_destination<P: PtrKey, T: Drop, S: SlotStack<Item = ArenaSlot<P, LinkNoGen<P, T>>>>(
     arena: &mut Arena<P, LinkNoGen<P, T>, S>,
     i: P::Inx,
@@ -18,8 +16,7 @@ fn clear_destination<P: PtrKey, T: Drop, S: SlotStack<Item = ArenaSlot<P, LinkNo
     }
 }
 
-/// Removes the destination of each link. The time is linear in the number of slots, which is not
-/// proved.
+/// Removes all destinations, in time linear in the slots, which is not proved.
 pub fn clear_destinations<P: PtrKey, T: Drop, S: SlotStack<Item = ArenaSlot<P, LinkNoGen<P, T>>>>(
     arena: &mut Arena<P, LinkNoGen<P, T>, S>,
 )

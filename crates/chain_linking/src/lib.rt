@@ -1,5 +1,4 @@
-//! Reads and writes the interlinks of a plain arena of links: links, walks, texts, and whether the
-//! interlinks agree.
+//! Reads and writes the interlinks of a plain arena.
 #![tactic(auto)]
 
 pub mod agreement;

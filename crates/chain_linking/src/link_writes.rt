@@ -1,4 +1,3 @@
-// Reads and writes links at indexes that are proved occupied, so no write checks for a link.
 ghost use Rattle.std.specs.Prelude.{◌≡◌, IfSome};
 ghost use Rattle.std.specs.Option.{option_map, option_and_then};
 ghost use Rattle.chain_laws.specs.Chains.{IsWellLinked, HasLink};
@@ -10,7 +9,6 @@ use arena_base::{Arena, ArenaSlot, ArenaTrait, proved_unreachable};
 use arena_ptr::{InvalidationResult, InxKey, PtrKey, SlotStack};
 use chain_links::{LinkNoGen, link_access};
 
-// Returns the current pointer to the link that an interlink names.
 fn neighbor<P: PtrKey, T: Drop, S: SlotStack<Item = ArenaSlot<P, LinkNoGen<P, T>>>>(
     arena: &Arena<P, LinkNoGen<P, T>, S>,
     i: Option<P::Inx>,
@@ -29,7 +27,7 @@ fn neighbor<P: PtrKey, T: Drop, S: SlotStack<Item = ArenaSlot<P, LinkNoGen<P, T>
     }
 }
 
-/// Returns the current pointers to the links before and after a link, both of which must exist.
+/// Returns the pointers to a link's neighbors.
 pub fn neighbors<P: PtrKey, T: Drop, S: SlotStack<Item = ArenaSlot<P, LinkNoGen<P, T>>>>(
     arena: &Arena<P, LinkNoGen<P, T>, S>,
     link: &LinkNoGen<P, T>,
@@ -43,7 +41,7 @@ pub fn neighbors<P: PtrKey, T: Drop, S: SlotStack<Item = ArenaSlot<P, LinkNoGen<
     (neighbor(arena, link.prev()), neighbor(arena, link.next()))
 }
 
-/// Sets the index after the link at `i`, if `i` is an index.
+/// Sets the index after `i`; `None` writes nothing.
 pub fn set_next<P: PtrKey, T: Drop, S: SlotStack<Item = ArenaSlot<P, LinkNoGen<P, T>>>>(
     arena: &mut Arena<P, LinkNoGen<P, T>, S>,
     i: Option<P::Inx>,
@@ -62,7 +60,7 @@ pub fn set_next<P: PtrKey, T: Drop, S: SlotStack<Item = ArenaSlot<P, LinkNoGen<P
     }
 }
 
-/// Sets the index before the link at `i`, if `i` is an index.
+/// Sets the index before `i`; `None` writes nothing.
 pub fn set_prev<P: PtrKey, T: Drop, S: SlotStack<Item = ArenaSlot<P, LinkNoGen<P, T>>>>(
     arena: &mut Arena<P, LinkNoGen<P, T>, S>,
     i: Option<P::Inx>,
@@ -81,7 +79,7 @@ pub fn set_prev<P: PtrKey, T: Drop, S: SlotStack<Item = ArenaSlot<P, LinkNoGen<P
     }
 }
 
-/// Sets the index after the link at `before`, and then the index before the link at `after`.
+/// Sets the index after `before`, then the index before `after`.
 pub fn write_beside<P: PtrKey, T: Drop, S: SlotStack<Item = ArenaSlot<P, LinkNoGen<P, T>>>>(
     arena: &mut Arena<P, LinkNoGen<P, T>, S>,
     before: Option<P::Inx>,
@@ -99,7 +97,7 @@ pub fn write_beside<P: PtrKey, T: Drop, S: SlotStack<Item = ArenaSlot<P, LinkNoG
     set_prev(arena, after, prev);
 }
 
-/// Links `next` after `prev`. If either is `None`, only the other link is written.
+/// Links `next` after `prev`; if either is `None`, only the other is written.
 pub fn link_pair<P: PtrKey, T: Drop, S: SlotStack<Item = ArenaSlot<P, LinkNoGen<P, T>>>>(
     arena: &mut Arena<P, LinkNoGen<P, T>, S>,
     prev: Option<P::Inx>,
@@ -114,7 +112,7 @@ pub fn link_pair<P: PtrKey, T: Drop, S: SlotStack<Item = ArenaSlot<P, LinkNoGen<
     write_beside(arena, prev, next, next, prev);
 }
 
-/// Links two pairs, one after another, each as `link_pair` does.
+/// Links two pairs in order.
 pub fn link_pairs<P: PtrKey, T: Drop, S: SlotStack<Item = ArenaSlot<P, LinkNoGen<P, T>>>>(
     arena: &mut Arena<P, LinkNoGen<P, T>, S>,
     first: (Option<P::Inx>, Option<P::Inx>),
@@ -134,7 +132,6 @@ pub fn link_pairs<P: PtrKey, T: Drop, S: SlotStack<Item = ArenaSlot<P, LinkNoGen
     link_pair(arena, second.0, second.1);
 }
 
-// Links the former neighbors of the link removed from `i`, unless it was its own neighbor.
 fn connect_former_neighbors<P: PtrKey, T: Drop, S: SlotStack<Item = ArenaSlot<P, LinkNoGen<P, T>>>>(
     arena: &mut Arena<P, LinkNoGen<P, T>, S>,
     i: P::Inx,
@@ -155,10 +152,7 @@ fn connect_former_neighbors<P: PtrKey, T: Drop, S: SlotStack<Item = ArenaSlot<P,
     }
 }
 
-/// Removes the link at `i` and links its former neighbors.
-///
-/// Returns its generation and the link as it was. If there is none, returns `InvalidPtr` and
-/// changes nothing.
+/// Removes the link at `i`, links its former neighbors, and returns its generation and the link.
 pub fn remove_link_at<P: PtrKey, T: Drop, S: SlotStack<Item = ArenaSlot<P, LinkNoGen<P, T>>>>(
     arena: &mut Arena<P, LinkNoGen<P, T>, S>,
     i: P::Inx,

@@ -1,11 +1,8 @@
-// The text of links with their pointers.
-
 use arena_base::{ArenaSlot, Iter};
 use arena_ptr::{Ptr, PtrGen, PtrInx, SlotStack};
 use chain_links::LinkNoGen;
 use std::fmt;
 
-// A pointer by the name of its type, its index, and its generation if it has one.
 #[derive(Clone, Copy)]
 struct PtrText<P>(P);
 
@@ -20,9 +17,8 @@ impl<P: Ptr> fmt::Debug for PtrText<P> {
     }
 }
 
-/// Formats links in the order of an iterator, as `{P0[1](2): {(start), (end)} "A"}`.
-///
-/// In the alternate form each link is on its own line, indented by four spaces.
+/// Formats links in iteration order, as `{P0[1](2): {(start), (end)} "A"}`, one per line in the
+/// alternate form.
 pub fn fmt_links<
     P: Ptr,
     T: fmt::Debug + Drop,

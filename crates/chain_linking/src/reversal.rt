@@ -1,4 +1,3 @@
-// Reverses one chain of a plain arena, link by link.
 ghost use Rattle.std.specs.Prelude.{◌≡◌};
 ghost use Rattle.std.specs.Option.{option_map};
 ghost use Rattle.chain_laws.specs.Chains.{IsWellLinked, HasLink, prev_of};
@@ -10,7 +9,6 @@ use arena_base::{Arena, ArenaSlot, ArenaTrait, proved_unreachable};
 use arena_ptr::{InxKey, PtrKey, SlotStack};
 use chain_links::{LinkNoGen, link_access};
 
-// Exchanges the interlinks of the link at `i`, and returns them as they were.
 fn turn<P: PtrKey, T: Drop, S: SlotStack<Item = ArenaSlot<P, LinkNoGen<P, T>>>>(
     arena: &mut Arena<P, LinkNoGen<P, T>, S>,
     i: P::Inx,
@@ -25,7 +23,7 @@ fn turn<P: PtrKey, T: Drop, S: SlotStack<Item = ArenaSlot<P, LinkNoGen<P, T>>>>(
     }
 }
 
-/// Reverses the chain of the link at `start`, before which is the link at `back`, if there is one.
+/// Reverses the chain of `start`, whose previous link is `back`, if any.
 pub fn turn_walk<P: PtrKey, T: Drop, S: SlotStack<Item = ArenaSlot<P, LinkNoGen<P, T>>>>(
     arena: &mut Arena<P, LinkNoGen<P, T>, S>,
     start: P::Inx,

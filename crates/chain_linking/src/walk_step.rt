@@ -1,4 +1,3 @@
-// The next step of a walker along a chain of a plain arena.
 ghost use Rattle.std.specs.Prelude.{◌≡◌, IfSome, IfNone};
 ghost use Rattle.std.specs.Option.{option_map};
 ghost use Rattle.arena_traits.specs.Arena.{entry_at, IsValid};
@@ -12,7 +11,7 @@ use arena_ptr::{PtrKey, SlotStack};
 use chain_links::LinkNoGen;
 use chain_links::walk_direction::step_both;
 
-/// Returns the pointer and the link at an index, if there is one.
+/// Returns the pointer and the link at an index, if any.
 pub fn lookup<P: PtrKey, T: Drop, S: SlotStack<Item = ArenaSlot<P, LinkNoGen<P, T>>>>(
     arena: &Arena<P, LinkNoGen<P, T>, S>,
     i: P::Inx,
@@ -29,9 +28,7 @@ pub fn lookup<P: PtrKey, T: Drop, S: SlotStack<Item = ArenaSlot<P, LinkNoGen<P, 
     }
 }
 
-/// Returns the pointer of the link that a walker passes next, and where the walker goes from there.
-///
-/// Returns `None` if there is no such link.
+/// Returns the next pointer of a walk, and where it goes then, or `None`.
 pub fn step<P: PtrKey, T: Drop, S: SlotStack<Item = ArenaSlot<P, LinkNoGen<P, T>>>>(
     arena: &Arena<P, LinkNoGen<P, T>, S>,
     start: P::Inx,

@@ -65,7 +65,6 @@ module _ {Gen T : Type 0} where
       (ext_get_or None b.slots (relink_from interlinks 1 a.slots) (long ∙ sym (length-relink_from interlinks 1 a.slots))
       (λ k inside. entries (suc k) ∙ sym (entry_at-with_link_map a interlinks (suc k))))
 
--- Links as contracts see them.
 module _ {Gen K T : Type 0} (number : K → Option ℕ) where
   pub entry_at-links_view : (a : Arena Gen (RawLink K T)) (i : ℕ) → entry_at (links_view number a) i ≡ option_map (pair_view number) (entry_at a i)
   entry_at-links_view a i = entry_at-with_each (link_view number) a i

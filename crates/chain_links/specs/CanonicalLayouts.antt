@@ -1,4 +1,3 @@
--- A canonical compression: chains in runs of indexes, one after another.
 use Rattle.std.specs.Prelude.{◌≡◌, ℕ, ◌+◌, ◌*◌, Bool, List, map, length, All, Option, Some, IfSome}
 use Rattle.std.specs.Option.{option_map}
 use Rattle.std.specs.List.{range_with_len}
@@ -8,22 +7,18 @@ use Rattle.chain_laws.specs.Arrangements.{place_in, in_runs, IsLeastIndexOrder}
 use Rattle.arena_traits.specs.Entries.{ArenaView, Slots, found, index_of}
 use Rattle.arena_traits.specs.Compressions.{counter_after_compression, values_in, AreFilledAnew, IfKnown}
 
--- If the slots are known, `count` links fill that many slots, none is freed, and each was placed
--- once. There were at most four touches per old slot plus twelve per link.
+-- `count` links fill as many slots, each placed once, with at most four touches per old slot and
+-- twelve per link.
 abbrev pub AreCompactedCanonically : ℕ → Option Slots → Option Slots → Type 0
 AreCompactedCanonically count = IfKnown (λ old. AreFilledAnew count (4 * old.count + 12 * count) old)
 
--- A bijection moves all links to the indexes from 1 to their number. Each chain is one run in
--- `next` order, a linear one from its start. Links keep their value and neighbors. All have one
--- generation, the counter if that is known.
+-- A bijection moves all links to the first indexes, each chain in one run, with values and
+-- neighbors kept.
 pub record IsCanonicalLayout {Gen T : Type 0} (first : Gen) (following : Gen → Gen) (reset : Bool) (old : ArenaView Gen T) (links : LinkMap) (new : ArenaView Gen T) (new_links : LinkMap) : Type 0 where
-  -- The links in their new order: chains by least index, linear from the start, cyclic from the
-  -- least index.
+  -- Chains by least index, linear from the start, cyclic from the least index.
   pub indexes : List ℕ
   pub order : IsLeastIndexOrder links indexes
-  -- The k-th is moved to index k, and names the new indexes of its neighbors.
   pub renamed : IsRenaming (place_in indexes) links new_links
-  -- The chains are in runs, one after another.
   pub new_chains : AreChains new_links (in_runs 1 order.chains)
   pub new_indexes : map index_of new.entries ≡ range_with_len 1 (length old.entries)
   pub values : map (λ t. Some t) (values_in new.entries) ≡ map (λ i. option_map (λ e. e.1) (found i old.entries)) indexes

@@ -1,4 +1,3 @@
--- The state of a chain arena: an arena of links.
 use Rattle.std.specs.Prelude.{◌≡◌, ◌≢◌, ℕ, zero, suc, List, [], ◌∷◌, map, All, IsSome, Option, None, Some}
 use Rattle.std.specs.Option.{option_map, option_and_then}
 use Rattle.chain_laws.specs.Chains.{LinkMap, Interlinks, prev_of, next_of}
@@ -17,11 +16,10 @@ abbrev pub nonzero_index : ℕ → Option ℕ
 nonzero_index zero = None
 nonzero_index (suc n) = Some (suc n)
 
--- A generation and a value, with a function applied to the value.
 abbrev pub on_value : {Gen X Y : Type 0} → (X → Y) → Gen × X → Gen × Y
 on_value f e = (e.0, f e.1)
 
--- An arena with a function applied to each value.
+-- An arena with each value mapped.
 abbrev pub with_each : {Gen X Y : Type 0} → (X → Y) → Arena Gen X → Arena Gen Y
 with_each f a = record {
   slots = map (option_map (on_value f)) a.slots;
@@ -34,7 +32,7 @@ with_each f a = record {
   touched = a.touched;
 }
 
--- A link: the indexes of its neighbors, and its value.
+-- A link: its neighbors' indexes and its value.
 pub record LinkView (T : Type 0) : Type 0 where
   pub prev : Option ℕ
   pub next : Option ℕ
@@ -52,14 +50,12 @@ module _ {T : Type 0} where
   abbrev pub link_value : LinkView T → T
   link_value link = link.value
 
-  -- The link with another value.
   abbrev pub with_link_value : T → LinkView T → LinkView T
   with_link_value t link = record link { value = t }
 
   abbrev pub interlinks_in : LinkView T → Interlinks
   interlinks_in link = record { prev = link.prev; next = link.next }
 
-  -- The link with other interlinks.
   abbrev pub with_interlinks : Interlinks → LinkView T → LinkView T
   with_interlinks interlinks link = record link { prev = interlinks.prev; next = interlinks.next }
 
@@ -67,7 +63,7 @@ module _ {Gen T : Type 0} where
   abbrev pub interlinks_of : Gen × LinkView T → Interlinks
   interlinks_of e = interlinks_in e.1
 
-  -- The interlinks of the links of the arena.
+  -- The interlinks of an arena.
   abbrev pub link_map : Arena Gen (LinkView T) → LinkMap
   link_map a i = option_map interlinks_of (entry_at a i)
 
@@ -75,37 +71,33 @@ module _ {Gen T : Type 0} where
   abbrev pub values_of : Arena Gen (LinkView T) → Arena Gen T
   values_of a = with_each link_value a
 
-  -- The values as generic code sees them, and the entry at each index.
+  -- The values as generic code sees them.
   abbrev pub value_view : Arena Gen (LinkView T) → ArenaView Gen T
   value_view a = view_of (values_of a)
 
   abbrev pub entry : Arena Gen (LinkView T) → ℕ → Option (Gen × T)
   entry a i = entry_at (values_of a) i
 
-  -- These two together.
   abbrev pub value_state : (a : Arena Gen (LinkView T)) → ArenaState (value_view a) (entry a)
   value_state a = arena_state (values_of a)
 
-  -- The entry with other interlinks.
   abbrev pub relink : Option Interlinks → Option (Gen × LinkView T) → Option (Gen × LinkView T)
   relink interlinks None = None
   relink None (Some e) = None
   relink (Some l) (Some e) = Some (e.0, with_interlinks l e.1)
 
-  -- The entries from an index on, with other interlinks.
   abbrev pub relink_from : LinkMap → ℕ → List (Option (Gen × LinkView T)) → List (Option (Gen × LinkView T))
   relink_from interlinks i [] = []
   relink_from interlinks i (e ∷ es) = relink (interlinks i) e ∷ relink_from interlinks (suc i) es
 
-  -- The arena with other interlinks and nothing else changed.
+  -- The arena with other interlinks.
   abbrev pub with_link_map : Arena Gen (LinkView T) → LinkMap → Arena Gen (LinkView T)
   with_link_map a interlinks = record a { slots = relink_from interlinks 1 a.slots }
 
-  -- A link without neighbors is inserted.
   abbrev pub insert_lone : Arena Gen (LinkView T) → T → Arena Gen (LinkView T)
   insert_lone a t = insert_next a (lone t)
 
-  -- q is the next link of u and the previous one of v.
+  -- q comes after u and before v.
   abbrev pub with_links_to : Arena Gen (LinkView T) → Option ℕ → Option ℕ → ℕ → Arena Gen (LinkView T)
   with_links_to a u v q = with_link_map a (with_prev_at (with_next_at (link_map a) u (Some q)) v (Some q))
 
@@ -113,25 +105,24 @@ module _ {Gen T : Type 0} where
   abbrev pub insert_between : Arena Gen (LinkView T) → T → Option ℕ → Option ℕ → Arena Gen (LinkView T)
   insert_between a t u v = with_link_map (insert_lone a t) (with_insertion (link_map a) (next_index a) u v)
 
-  -- The link at i, if there is one, with another value.
+  -- Another value at i, if there is a link.
   abbrev pub with_value_at : Arena Gen (LinkView T) → ℕ → T → Arena Gen (LinkView T)
   with_value_at a i t = record a { slots = with_slot a.slots i (option_map (on_value (with_link_value t)) (entry_at a i)) }
 
-  -- The link at i is removed and its neighbors are linked.
+  -- The link at i is removed, and its neighbors are linked.
   abbrev pub remove_link : (Gen → Gen) → Arena Gen (LinkView T) → ℕ → Arena Gen (LinkView T)
   remove_link following a i = with_link_map (remove_at following a i) (with_removal (link_map a) i)
 
-  -- The links of the walk from i, with indexes and generations.
+  -- The links of the walk from i.
   pub record IsWalkOf (a : Arena Gen (LinkView T)) (i : ℕ) (links : List (ℕ × (Gen × LinkView T))) : Type 0 where
     pub walk : IsWalk (link_map a) i (map (λ e. e.0) links)
     pub stored : All (λ e. entry_at a e.0 ≡ Some e.1) links
 
-  -- The links of the walk back from i, with indexes and generations.
+  -- The links of the walk back from i.
   pub record IsWalkBackOf (a : Arena Gen (LinkView T)) (i : ℕ) (links : List (ℕ × (Gen × LinkView T))) : Type 0 where
     pub walk : IsWalkBack (link_map a) i (map (λ e. e.0) links)
     pub stored : All (λ e. entry_at a e.0 ≡ Some e.1) links
 
--- Links of any arena, from its entries and interlinks.
 module _ {Gen T : Type 0} where
   abbrev pub link_of : Option (Gen × T) → Option Interlinks → Option (Gen × LinkView T)
   link_of None interlinks = None
@@ -139,24 +130,24 @@ module _ {Gen T : Type 0} where
   link_of (Some e) (Some l) = Some (e.0, record { prev = l.prev; next = l.next; value = e.1 })
 
 module _ {Gen T : Type 0} (entry : ℕ → Option (Gen × T)) where
-  -- The current pointer to the link at an index.
+  -- The current pointer to an index.
   abbrev pub ptr_at : ℕ → Option (ℕ × Gen)
   ptr_at i = option_map (λ e. (i, e.0)) (entry i)
 
-  -- p may be moved after q: both are valid, and not the same.
+  -- p and q are valid, and not the same.
   pub record CanMove (p q : ℕ × Gen) : Type 0 where
     pub first_valid : IsValid entry p
     pub second_valid : IsValid entry q
     pub apart : p.0 ≢ q.0
 
-  -- A run from `first` to `last` may be moved after p: all are valid, and p is not `last`.
+  -- All three are valid, and p is not `last`.
   pub record CanSplice (p first last : ℕ × Gen) : Type 0 where
     pub p_valid : IsValid entry p
     pub first_valid : IsValid entry first
     pub last_valid : IsValid entry last
     pub apart : p.0 ≢ last.0
 
-  -- Links may be put in an order: all are valid, and none is the same as the one after it.
+  -- All are valid, and none equals the one after it.
   pub record CanPutInOrder (order : List (ℕ × Gen)) : Type 0 where
     pub valid : All (λ p. IsValid entry p) order
     pub apart : AreApart (map (λ p. p.0) order)
@@ -166,21 +157,21 @@ module _ {Gen T : Type 0} (entry : ℕ → Option (Gen × T)) (interlinks : Link
   abbrev pub link_at : ℕ → Option (Gen × LinkView T)
   link_at i = link_of (entry i) (interlinks i)
 
-  -- q may be linked after p: both are valid, p has no next and q no prev.
+  -- p and q are valid, p has no next and q no prev.
   pub record CanConnect (p q : ℕ × Gen) : Type 0 where
     pub first_valid : IsValid entry p
     pub second_valid : IsValid entry q
     pub no_next : next_of interlinks p.0 ≡ None
     pub no_prev : prev_of interlinks q.0 ≡ None
 
-  -- The links after p and q may be exchanged: both are valid and have a next.
+  -- p and q are valid and have a next.
   pub record CanExchange (p q : ℕ × Gen) : Type 0 where
     pub first_valid : IsValid entry p
     pub second_valid : IsValid entry q
     pub first_next : IsSome (next_of interlinks p.0)
     pub second_next : IsSome (next_of interlinks q.0)
 
-  -- The link of a pointer, with current pointers to its neighbors.
+  -- A pointer's link, with pointers to its neighbors.
   pub record IsLinkAt (p : ℕ × Gen) (prev next : Option (ℕ × Gen)) (t : T) : Type 0 where
     pub stored : entry p.0 ≡ Some (p.1, t)
     pub before : prev ≡ option_and_then (ptr_at entry) (prev_of interlinks p.0)

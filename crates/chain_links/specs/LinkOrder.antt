@@ -1,4 +1,3 @@
--- The order of links: by the index before, then the index after, then the value, with `None` first.
 use Rattle.std.specs.Prelude.{◌≡◌, ℕ, ◌⊎◌, ◌↔◌, ⊤, Bool, ◌&&◌, ◌==◌, ◌++◌, IsTrue, Option, None, Some}
 use Rattle.std.specs.Option.{option_eq, option_cmp}
 use Rattle.std.specs.declared.cmp.Ordering.{Ordering}
@@ -17,15 +16,15 @@ module _ {T : Type 0} where
   abbrev pub neighbors_cmp : LinkView T → LinkView T → Ordering
   neighbors_cmp l m = ordering_then (option_cmp nat_cmp l.prev m.prev) (option_cmp nat_cmp l.next m.next)
 
-  -- The result of `==`, from `==` on values.
+  -- `==` of links.
   abbrev pub links_eq : (T → T → Bool) → LinkView T → LinkView T → Bool
   links_eq eq l m = neighbors_eq l m && eq l.value m.value
 
-  -- The result of `cmp`, from `cmp` on values.
+  -- `cmp` of links.
   abbrev pub links_cmp : (T → T → Ordering) → LinkView T → LinkView T → Ordering
   links_cmp cmp l m = ordering_then (neighbors_cmp l m) (cmp l.value m.value)
 
-  -- The result of `partial_cmp`, from `partial_cmp` on values.
+  -- `partial_cmp` of links.
   abbrev pub links_partial_cmp : (T → T → Option Ordering) → LinkView T → LinkView T → Option Ordering
   links_partial_cmp cmp l m = partial_ordering_then (Some (neighbors_cmp l m)) (cmp l.value m.value)
 
@@ -33,14 +32,14 @@ module _ {T : Type 0} where
   abbrev pub link_writes : (T → HashWrites) → LinkView T → HashWrites
   link_writes writes l = (fed.option fed.usize l.prev ++ fed.option fed.usize l.next) ++ writes l.value
 
--- `None` is below each index or pointer; `below` orders these.
+-- `None` is below each index or pointer.
 abbrev pub IsBelow : {X : Type 0} → (X → X → Type 0) → Option X → Option X → Type 0
 IsBelow below None None = ⊥
 IsBelow below None (Some n) = ⊤
 IsBelow below (Some m) None = ⊥
 IsBelow below (Some m) (Some n) = below m n
 
--- The neighbors of a link and its value.
+-- A link's neighbors and value.
 pub record Parts (X T : Type 0) : Type 0 where
   pub prev : Option X
   pub next : Option X
@@ -52,13 +51,13 @@ body_parts number l = record { prev = number l.prev; next = number l.next; value
 abbrev pub parts_of : {P T : Type 0} → Link P T → Parts P T
 parts_of l = record { prev = l.prev; next = l.next; value = l.t }
 
--- The neighbors are the same, and the values are equal.
+-- Equal neighbors and values.
 pub record AreEqual {X T : Type 0} (eq : T → T → Bool) (l m : Parts X T) : Type 0 where
   pub prev : l.prev ≡ m.prev
   pub next : l.next ≡ m.next
   pub value : IsTrue (eq l.value m.value)
 
--- l is below m by prev, or by next if prev is equal, or by value if both are.
+-- l is below m, by prev, then next, then value.
 abbrev pub Precedes : {X T : Type 0} → (X → X → Type 0) → (T → T → Type 0) → Parts X T → Parts X T → Type 0
 Precedes below below_value l m =
     IsBelow below l.prev m.prev ⊎ ((l.prev ≡ m.prev) × (IsBelow below l.next m.next ⊎ ((l.next ≡ m.next) × below_value l.value m.value)))

@@ -1,4 +1,3 @@
--- The laws of comparisons hold for links if they hold for values.
 use Rattle.std.specs.Prelude.{◌≡◌, ℕ, Bool, true, ◌++◌, nat_eq, Option, None, Some}
 use Rattle.std.specs.Option.{option_eq, option_cmp}
 use Rattle.std.specs.declared.cmp.Ordering.{Ordering}

@@ -1,4 +1,3 @@
--- The links that a walker over a chain arena still yields.
 use Rattle.std.specs.Prelude.{◌≡◌, ℕ, List, [], ◌∷◌, length, Option, None, Some, IfSome, IfNone}
 use Rattle.std.specs.Option.{option_map}
 use Rattle.std.specs.Borrow.{Bor}
@@ -16,17 +15,15 @@ module _ {Gen T : Type 0} where
   links_at a [] = []
   links_at a (i ∷ indexes) = elim (entry_at a i) [ None ↦ [] | Some e ↦ (i, e) ∷ links_at a indexes ]
 
-  -- The links ahead of a walker that began at `start`, goes on at `forward` and `back`, and makes at
-  -- most `left` steps.
+  -- The links ahead of a walker from `start`, now at `forward` and `back`.
   abbrev pub links_ahead : Arena Gen (LinkView T) → ℕ → ℕ → Option ℕ → Option ℕ → List (ℕ × (Gen × LinkView T))
   links_ahead a left start forward back = links_at a (walk_ahead left (link_map a) start forward back)
 
-  -- The last link of the chain of a link: the end, or the link before it in a cyclic chain.
+  -- The end of a linear chain, or the link before `start`.
   abbrev pub end_in : Arena Gen (LinkView T) → ℕ → ℕ
   end_in a start = end_of (length a.slots) (link_map a) start
 
-  -- The links ahead of a walker backwards that began at `start`, goes on at `at`, and makes at most
-  -- `left` steps.
+  -- The links ahead of a walker backwards from `start`, now at `at`.
   abbrev pub links_back_ahead : Arena Gen (LinkView T) → ℕ → ℕ → Option ℕ → List (ℕ × (Gen × LinkView T))
   links_back_ahead a left start at = links_at a (back_ahead left (link_map a) start (end_in a start) at)
 
@@ -35,17 +32,16 @@ module _ {Gen T : Type 0} where
   index_and_entry i e = (i, e)
 
 module _ {P Gen K T : Type 0} where
-  -- A yielded pointer and link, as contracts see them.
+  -- A yielded pointer and link.
   abbrev pub item_view : (P → ℕ × Gen) → (K → Option ℕ) → P × Bor (RawLink K T) → ℕ × (Gen × LinkView T)
   item_view key number item = ((key item.0).0, ((key item.0).1, link_view number item.1.now))
 
--- One call of an advancer: it passes the link at its next step and takes the step; without such a
--- link it has no steps left.
+-- A call of an advancer takes one step, or none is left.
 pub record IsPassing {Gen T : Type 0} (entry : ℕ → Option (Gen × T)) (interlinks : LinkMap) (old : Walker) (returned : Option (ℕ × Gen)) (new : Walker) : Type 0 where
   pub passed : IfSome returned (λ p. IsValid entry p × (step_of interlinks old ≡ Some (p.0, new)))
   pub spent : IfNone returned (new.left ≡ 0)
   pub end : IfNone returned (IfSome (step_of interlinks old) (λ step. entry step.0 ≡ None))
 
--- The walker of an advancer, with its indexes as numbers.
+-- An advancer's walker.
 abbrev pub walker_of : {I : Type 0} → (I → ℕ) → ℕ → I → Option I → Option I → Walker
 walker_of number left start forward back = record { left = left; start = number start; forward = option_map number forward; back = option_map number back }

@@ -1,4 +1,3 @@
-// Laws of the indexes and links of any arena.
 ghost use Rattle.std.specs.Prelude.{◌≤◌, ℕ, List, length, IsSome};
 ghost use Rattle.arena_traits.specs.Arena.{IsValid};
 ghost use Rattle.arena_traits.specs.Entries.{count};
@@ -9,13 +8,13 @@ ghost use Rattle.chain_links.specs.Insertions.{MayInsertIn};
 use arena_ptr::{AnyPointer, InxKey, PtrKey};
 use arena_traits::ArenaTrait;
 
-/// Proves that distinct indexes with entries are at most as many as the entries.
+/// Proves that there are at least as many entries as distinct occupied indexes.
 pub fn distinct_entries_fit<P: PtrKey, T: Drop, A: ArenaTrait<P, T>>()
     ensures { (a : A) (xs : List ℕ) → AreDistinct xs
         → ((i : ℕ) → IsMember xs i → IsSome (A.entry a i)) → length xs ≤ count (A.view a) }
 {}
 
-/// Proves that a link may be inserted next to each valid link, after it or before it.
+/// Proves that links may be inserted next to each valid link.
 pub fn valid_links_admit_neighbors<P: PtrKey, T: Drop, A: ArenaTrait<P, T>>()
     ensures pointers { (interlinks : A → LinkMap) (a : A) (p : P)
         → IsValid (A.entry a) (P.key p)

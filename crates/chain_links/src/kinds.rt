@@ -1,9 +1,7 @@
-//! The kinds of insertion for a type of pointers.
-
 use arena_ptr::PtrKey;
 use chain_laws::insert_kind::InsertKind;
 
-/// The kinds of insertion for pointers of type `P`.
+/// The kinds of insertion.
 ///
 /// Port of `LinkInsertKind`.
 pub type LinkInsertKind<P> = InsertKind<P, <P as PtrKey>::Inx>;

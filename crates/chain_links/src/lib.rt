@@ -1,4 +1,4 @@
-//! Links that name their neighbors by index, kinds of insertion, and the specs of arenas of links.
+//! Links that name their neighbors by index.
 #![tactic(auto)]
 
 mod arena_laws;

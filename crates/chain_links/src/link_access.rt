@@ -1,21 +1,18 @@
-//! Reads and writes the private fields of a link, for the crates that link and move links.
-//!
-//! `chain_arena` does not export this module; a link of a chain arena has no destination between
-//! calls (`IsChainArena`).
+//! Private fields, not exported by `chain_arena`.
 ghost use Rattle.std.specs.Prelude.{◌≡◌, None};
 ghost use Rattle.std.specs.Option.{option_map};
 
 use crate::links::RawLink;
 use arena_ptr::{InxKey, PackedOption};
 
-/// Returns a reference to the value of a link.
+/// Returns the value.
 pub fn value_of<W: Copy, I: InxKey<Word = W>, T>(link: &RawLink<PackedOption<I, W>, T>) -> &T
     ensures { result.now ≡ link.now.t }
 {
     &link.t
 }
 
-/// Sets the index of the link after this one.
+/// Sets the next index.
 pub fn set_next<W: Copy, I: InxKey<Word = W>, T>(
     link: &mut RawLink<PackedOption<I, W>, T>,
     next: Option<I>,
@@ -26,7 +23,7 @@ pub fn set_next<W: Copy, I: InxKey<Word = W>, T>(
     link.next = I::pack(next);
 }
 
-/// Sets the index of the link before this one.
+/// Sets the previous index.
 pub fn set_prev<W: Copy, I: InxKey<Word = W>, T>(
     link: &mut RawLink<PackedOption<I, W>, T>,
     prev: Option<I>,
@@ -37,7 +34,7 @@ pub fn set_prev<W: Copy, I: InxKey<Word = W>, T>(
     link.prev = I::pack(prev);
 }
 
-/// Exchanges the indexes of the links before and after this one, and returns them as they were.
+/// Exchanges both interlinks and returns the old ones.
 pub fn turn<W: Copy, I: InxKey<Word = W>, T>(
     link: &mut RawLink<PackedOption<I, W>, T>,
 ) -> (Option<I>, Option<I>)
@@ -52,7 +49,7 @@ pub fn turn<W: Copy, I: InxKey<Word = W>, T>(
     (I::unpack(prev), I::unpack(next))
 }
 
-/// Returns the index that a link is to be moved to, if one is set.
+/// Returns the index that the link is to be moved to.
 pub fn destination_of<W: Copy, I: InxKey<Word = W>, T>(
     link: &RawLink<PackedOption<I, W>, T>,
 ) -> Option<I>
@@ -61,7 +58,7 @@ pub fn destination_of<W: Copy, I: InxKey<Word = W>, T>(
     I::unpack(link.destination)
 }
 
-/// Sets the index that a link is to be moved to.
+/// Sets the index that the link is to be moved to.
 pub fn set_destination<W: Copy, I: InxKey<Word = W>, T>(
     link: &mut RawLink<PackedOption<I, W>, T>,
     destination: Option<I>,

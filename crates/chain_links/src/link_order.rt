@@ -1,4 +1,3 @@
-// The order, equality and hashes of links: neighbors first, then values.
 ghost use Rattle.std.specs.Prelude.{◌≡◌, ◌<◌};
 ghost use Rattle.std.specs.Option.{option_map};
 ghost use Rattle.std.specs.declared.cmp.Ordering.TheVariants.{Less};
@@ -9,7 +8,6 @@ use arena_ptr::{InxKey, PackedOption, Ptr};
 use std::cmp::Ordering;
 use std::hash::{Hash, Hasher};
 
-// Returns the number of an index, if there is one.
 fn number_of<I: InxKey>(i: Option<I>) -> Option<usize>
     ensures { result ≡ option_map I.number i }
 {
@@ -20,7 +18,6 @@ fn number_of<I: InxKey>(i: Option<I>) -> Option<usize>
 }
 
 impl<W: Copy, I: InxKey<Word = W>, T> RawLink<PackedOption<I, W>, T> {
-    // Returns the numbers of both neighbors, by which links compare first.
     fn numbers(&self) -> (Option<usize>, Option<usize>)
         ensures { result ≡ (I.packed_number self.now.prev, I.packed_number self.now.next) }
     {
@@ -109,10 +106,7 @@ impl<W: Copy, I: InxKey<Word = W>, T: Hash> Hash for RawLink<PackedOption<I, W>,
     }
 }
 
-/// States that links compare by previous neighbor, then by next neighbor, then by value.
-///
-/// Links are equal if their neighbors are the same and their values are equal. `None` is below each
-/// index or pointer. Indexes compare by number, pointers by their own order.
+/// States that links compare by previous neighbor, next neighbor and value, with `None` least.
 pub fn links_compare_by_neighbors<P: Ptr, T: Ord>()
     ensures no_gen { CompareByParts (body_parts P.Inx.packed_number) ◌<◌ T.eq T.cmp
         ⟦<LinkNoGen<P, T> as PartialEq>⟧.eq ⟦<LinkNoGen<P, T> as Ord>⟧.cmp }

@@ -1,4 +1,3 @@
-// The texts of links, by `Debug` and by `Display`.
 ghost use Rattle.std.specs.Option.{option_map};
 ghost use Rattle.std.specs.Fmt.{WritesOnOk, DisplaysOnOk};
 ghost use Rattle.chain_links.specs.LinkText.{index_text, neighbors_text};
@@ -7,7 +6,6 @@ use crate::links::{Link, RawLink, index_of};
 use arena_ptr::{PackedOption, Ptr, PtrInx};
 use std::fmt;
 
-// Writes an index, or `none` if there is none.
 fn write_index<I: PtrInx, F: fmt::Write>(
     f: &mut fmt::Formatter<F>,
     i: Option<I>,
@@ -22,7 +20,6 @@ fn write_index<I: PtrInx, F: fmt::Write>(
     }
 }
 
-// Writes the part of a link's text before its value.
 fn write_neighbors<I: PtrInx, F: fmt::Write>(
     f: &mut fmt::Formatter<F>,
     prev: Option<I>,
@@ -38,7 +35,6 @@ fn write_neighbors<I: PtrInx, F: fmt::Write>(
     f.write_str("} ")
 }
 
-// Writes a value by `Debug`. Of the caller's format only the alternate flag reaches it.
 fn write_debug<T: fmt::Debug, F: fmt::Write>(f: &mut fmt::Formatter<F>, value: &T) -> fmt::Result
     ensures { DisplaysOnOk F.write_str_gives f.old result (T.debug_output value.now) f.new }
 {
@@ -49,7 +45,6 @@ fn write_debug<T: fmt::Debug, F: fmt::Write>(f: &mut fmt::Formatter<F>, value: &
     }
 }
 
-// Writes a value by `Display`. Of the caller's format only the alternate flag reaches it.
 fn write_display<T: fmt::Display, F: fmt::Write>(
     f: &mut fmt::Formatter<F>,
     value: &T,
@@ -63,10 +58,9 @@ fn write_display<T: fmt::Display, F: fmt::Write>(
     }
 }
 
-/// Writes the indexes of the neighbors and the value, as `{1, (end)} "B"`.
+/// Writes a link as `{1, (end)} "B"`, with `(start)` and `(end)` for no index.
 ///
-/// `(start)` and `(end)` replace a missing index. Of the caller's format only the alternate flag
-/// reaches the value.
+/// Of the caller's format only the alternate flag reaches the value.
 impl<W: Copy, I: PtrInx<Word = W>, T: fmt::Debug> fmt::Debug for RawLink<PackedOption<I, W>, T> {
     ghost use Rattle.chain_links.specs.LinkText.{link_text};
 
@@ -79,7 +73,6 @@ impl<W: Copy, I: PtrInx<Word = W>, T: fmt::Debug> fmt::Debug for RawLink<PackedO
     }
 }
 
-/// Writes the same text as `Debug`, with the value by `Display`.
 impl<W: Copy, I: PtrInx<Word = W>, T: fmt::Display> fmt::Display
     for RawLink<PackedOption<I, W>, T> {
     ghost use Rattle.chain_links.specs.LinkText.{link_text};
@@ -93,7 +86,7 @@ impl<W: Copy, I: PtrInx<Word = W>, T: fmt::Display> fmt::Display
     }
 }
 
-/// Writes the same text as a link without generations; those of the pointers are left out.
+/// Writes the text of a link without generations.
 impl<P: Ptr, T: fmt::Debug> fmt::Debug for Link<P, T> {
     ghost use Rattle.std.specs.Option.{option_map};
     ghost use Rattle.chain_links.specs.Links.{index_in};
@@ -108,7 +101,6 @@ impl<P: Ptr, T: fmt::Debug> fmt::Debug for Link<P, T> {
     }
 }
 
-/// Writes the same text as `Debug`, with the value by `Display`.
 impl<P: Ptr, T: fmt::Display> fmt::Display for Link<P, T> {
     ghost use Rattle.std.specs.Option.{option_map};
     ghost use Rattle.chain_links.specs.Links.{index_in};

@@ -1,4 +1,3 @@
-// Links with their interlinks as packed indexes or as pointers.
 ghost use Rattle.std.specs.Prelude.{◌≡◌, ◌↔◌, ℕ, Option, None, Some, IsTrue};
 ghost use Rattle.std.specs.Option.{option_map};
 ghost use Rattle.chain_links.specs.Links.{link_view, index_in, IsAtRest};
@@ -6,25 +5,22 @@ ghost use Rattle.chain_links.specs.Links.{link_view, index_in, IsAtRest};
 use arena_ptr::{InxKey, PackedOption, PtrKey, ToolPtr};
 use std::alloc::AllocError;
 
-/// A link: the optional indexes of its neighbors, each stored as a `K`, and its value.
+/// A value with its neighbors' optional indexes, each stored as a `K`.
 #[derive(Copy)]
 pub struct RawLink<K: Vacant, T> {
     pub(crate) prev: K,
     pub(crate) next: K,
 
-    // The index that the link is to be moved to. `None` except during a canonical compression.
+    // `None` except during a canonical compression.
     pub(crate) destination: K,
-
-    /// The value.
     pub t: T,
 }
 
 /// A type that stores an optional index.
 pub trait Vacant: Copy {
-    // The number of the stored index, if there is one.
     ghost number: { Self → Option ℕ };
 
-    /// Returns the value that stores no index.
+    /// Stores no index.
     fn vacant() -> Self
         ensures { number result ≡ None };
 }
@@ -57,7 +53,7 @@ impl<K: Vacant, T: Clone> Clone for RawLink<K, T> {
     }
 }
 
-/// An interlink without a generation: an optional index, packed in the width of an index.
+/// An optional index, no wider than an index.
 pub type Interlink<P> = PackedOption<<P as PtrKey>::Inx, <<P as PtrKey>::Inx as InxKey>::Word>;
 
 /// A link whose interlinks have no generation.
@@ -65,25 +61,24 @@ pub type Interlink<P> = PackedOption<<P as PtrKey>::Inx, <<P as PtrKey>::Inx as 
 /// Port of `LinkNoGen`.
 pub type LinkNoGen<P, T> = RawLink<Interlink<P>, T>;
 
-// An interlink is no larger than its index, and neither is a destination.
 const _: () = prove!(size_of::<LinkNoGen<ToolPtr, u32>>() == 16);
 
 impl<W: Copy, I: InxKey<Word = W>, T> RawLink<PackedOption<I, W>, T> {
-    /// Returns the index of the link before this one, or `None` at the start of the chain.
+    /// Returns the previous index, or `None` at the start.
     pub fn prev(&self) -> Option<I>
         ensures { option_map I.number result ≡ (link_view I.packed_number self.now).prev }
     {
         I::unpack(self.prev)
     }
 
-    /// Returns the index of the link after this one, or `None` at the end of the chain.
+    /// Returns the next index, or `None` at the end.
     pub fn next(&self) -> Option<I>
         ensures { option_map I.number result ≡ (link_view I.packed_number self.now).next }
     {
         I::unpack(self.next)
     }
 
-    /// Returns both interlinks: `(self.prev(), self.next())`.
+    /// Returns both interlinks.
     pub fn prev_next(&self) -> (Option<I>, Option<I>)
         ensures prev { option_map I.number result.0 ≡ (link_view I.packed_number self.now).prev }
         ensures next { option_map I.number result.1 ≡ (link_view I.packed_number self.now).next }
@@ -91,7 +86,7 @@ impl<W: Copy, I: InxKey<Word = W>, T> RawLink<PackedOption<I, W>, T> {
         (self.prev(), self.next())
     }
 
-    /// Creates a link from its interlinks and its value.
+    /// Creates a link.
     pub fn new(prev_next: (Option<I>, Option<I>), t: T) -> Self
         ensures link { link_view I.packed_number result
             ≡ record {
@@ -111,7 +106,7 @@ impl<W: Copy, I: InxKey<Word = W>, T> RawLink<PackedOption<I, W>, T> {
     }
 }
 
-/// A link whose interlinks are pointers, with the generations of its neighbors when it was read.
+/// A link whose interlinks are pointers, with their generations when it was read.
 ///
 /// Port of `Link`.
 #[derive(Copy, PartialEq, Eq, PartialOrd, Ord, Hash)]
@@ -119,7 +114,6 @@ pub struct Link<P, T> {
     prev: Option<P>,
     next: Option<P>,
 
-    /// The value.
     pub t: T,
 }
 
@@ -140,28 +134,28 @@ impl<P: Copy, T: Clone> Clone for Link<P, T> {
 }
 
 impl<P: Copy, T> Link<P, T> {
-    /// Returns the pointer to the link before this one, or `None` at the start of the chain.
+    /// Returns the previous pointer, or `None` at the start.
     pub fn prev(&self) -> Option<P>
         ensures { result ≡ self.now.prev }
     {
         self.prev
     }
 
-    /// Returns the pointer to the link after this one, or `None` at the end of the chain.
+    /// Returns the next pointer, or `None` at the end.
     pub fn next(&self) -> Option<P>
         ensures { result ≡ self.now.next }
     {
         self.next
     }
 
-    /// Returns both interlinks: `(self.prev(), self.next())`.
+    /// Returns both interlinks.
     pub fn prev_next(&self) -> (Option<P>, Option<P>)
         ensures { result ≡ (self.now.prev, self.now.next) }
     {
         (self.prev, self.next)
     }
 
-    /// Creates a link from its interlinks and its value.
+    /// Creates a link.
     pub fn new(prev_next: (Option<P>, Option<P>), t: T) -> Self
         ensures prev { result.prev ≡ prev_next.0 }
         ensures next { result.next ≡ prev_next.1 }
@@ -176,7 +170,7 @@ impl<P: Copy, T> Link<P, T> {
 }
 
 impl<P: PtrKey, T> Link<P, T> {
-    /// Converts to a link without the generations of its neighbors.
+    /// Drops the neighbors' generations.
     pub fn no_gen(self) -> LinkNoGen<P, T>
         ensures link { link_view P.Inx.packed_number result
             ≡ record {
@@ -190,7 +184,7 @@ impl<P: PtrKey, T> Link<P, T> {
         RawLink::new((index_of(self.prev), index_of(self.next)), self.t)
     }
 
-    /// Returns the link without the generations of its neighbors, with its value by reference.
+    /// Drops the neighbors' generations, and borrows the value.
     pub fn no_gen_ref(&self) -> LinkNoGen<P, &T>
         ensures prev { (link_view P.Inx.packed_number result).prev ≡ option_map
             (index_in P.key) self.now.prev }
@@ -203,7 +197,7 @@ impl<P: PtrKey, T> Link<P, T> {
     }
 }
 
-/// Returns the index of a pointer, if there is one.
+/// Returns the index of a pointer, if any.
 pub fn index_of<P: PtrKey>(p: Option<P>) -> Option<P::Inx>
     ensures { option_map P.Inx.number result ≡ option_map (index_in P.key) p }
 {
@@ -213,7 +207,7 @@ pub fn index_of<P: PtrKey>(p: Option<P>) -> Option<P::Inx>
     }
 }
 
-/// Returns whether `i` is the index `j`.
+/// Returns whether `i` is `j`.
 pub fn is_index<I: InxKey>(i: Option<I>, j: I) -> bool
     ensures { IsTrue result ↔ (option_map I.number i ≡ Some (I.number j)) }
 {

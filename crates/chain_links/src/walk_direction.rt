@@ -1,11 +1,10 @@
-// The next step of a walk along a chain, forwards or backwards.
 ghost use Rattle.std.specs.Prelude.{◌≡◌, None};
 ghost use Rattle.std.specs.Option.{option_map};
 ghost use Rattle.chain_laws.specs.Walks.{step_forward, step_back};
 
 use arena_ptr::InxKey;
 
-/// Returns where a walk goes from a link: to the next link, unless the walk started there.
+/// Returns the next link, unless the walk started there.
 pub fn step_on<I: InxKey>(start: I, next: Option<I>) -> Option<I>
     ensures { option_map I.number result ≡ step_forward (I.number start)
         (option_map I.number next) }
@@ -16,10 +15,7 @@ pub fn step_on<I: InxKey>(start: I, next: Option<I>) -> Option<I>
     }
 }
 
-/// Returns where a walk goes forwards from a link, and where it goes backwards from the end.
-///
-/// Both are `None` if the next link is the start of the walk. Each case has its own branch, so that
-/// walks take predicted branches and no conditional moves.
+/// Returns a walk's next step, and the one backwards from the end.
 pub fn step_both<I: InxKey>(start: I, next: Option<I>, back: Option<I>) -> (Option<I>, Option<I>)
     ensures on { option_map I.number result.0 ≡ step_forward (I.number start)
         (option_map I.number next) }
@@ -36,7 +32,6 @@ pub fn step_both<I: InxKey>(start: I, next: Option<I>, back: Option<I>) -> (Opti
     }
 }
 
-// Returns where a walk goes that has come around. This is the unlikely path, so it is not inlined.
 #[cold]
 #[inline(never)]
 fn nowhere<I: InxKey>() -> (Option<I>, Option<I>)

@@ -1,4 +1,4 @@
--- The calls so far are a run, and the replies to the rest fit within the capacity.
+-- The calls so far are a run, and the capacity suffices for the other replies.
 use Rattle.std.proofs.Common.{◌≤◌, ◌+◌, vec_len, vec_capacity}
 use Rattle.std.specs.Vec.Iter.{into_iter_items, into_iter_len}
 use Rattle.arena_core.proofs.PointerKindLemmas.{kind_by}

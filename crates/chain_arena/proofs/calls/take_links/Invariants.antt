@@ -1,5 +1,4 @@
--- The links taken and those left are the walk, and removing those left gives what removing the walk
--- gives.
+-- The links taken and those left are the walk.
 use Rattle.std.proofs.Common.{◌≡◌, ◌+◌, ◌≤◌, length}
 use Rattle.chain_arena.specs.Drains.{walk_left, without_each}
 use Rattle.chain_arena.proofs.calls.take_links.Given as goal

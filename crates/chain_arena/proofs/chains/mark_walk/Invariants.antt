@@ -1,4 +1,4 @@
--- What is left of the walk marks the rest of its links, and finds the head among them.
+-- The rest of the walk marks its links, and finds the head among them.
 use Rattle.std.proofs.Common.{true}
 use Rattle.chain_arena.proofs.ChainHeadLemmas.{head_view, IsMarking}
 use Rattle.chain_arena.proofs.chains.mark_walk.Given as goal

@@ -1,4 +1,4 @@
--- The links ahead of the walk are still to be turned: first by next, and then back from the end.
+-- The links ahead are still to be turned: by next, then back from the end.
 use Rattle.std.specs.Prelude.{None, Some}
 use Rattle.std.specs.Option.{option_map}
 use Rattle.chain_links.specs.Links.{links_view, AreAtRest}
