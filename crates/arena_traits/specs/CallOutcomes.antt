@@ -1,4 +1,4 @@
-use Rattle.std.specs.Prelude.{◌≡◌, ℕ, ◌+◌, ◌<◌, ◌≤◌, Bool, true, false, IfSome, Option, None, Some, Result, Ok, Err}
+use Rattle.std.specs.Prelude.{◌≡◌, ℕ, zero, suc, ◌+◌, ◌<◌, ◌≤◌, Bool, true, false, ◌||◌, IfSome, Option, None, Some, Result, Ok, Err}
 use Rattle.std.specs.Option.{option_map}
 use Rattle.arena_core.specs.Invalidation.{invalidation_option}
 use Rattle.arena_core.specs.PointerKinds.{PointerKind}
@@ -18,6 +18,15 @@ abbrev pub ReportsOverflow : {X Gen : Type 0} → (Gen → Bool) → Option Gen 
 ReportsOverflow wraps counter invalid done InvalidPtr = invalid
 ReportsOverflow wraps counter invalid done (Success x) = IfSome counter (λ g. wraps g ≡ false) × done x
 ReportsOverflow wraps counter invalid done (GenerationOverflow x) = IfSome counter (λ g. wraps g ≡ true) × done x
+
+abbrev pub counter_after : {Gen : Type 0} → (Gen → Gen) → ℕ → Gen → Gen
+counter_after following zero g = g
+counter_after following (suc n) g = following (counter_after following n g)
+
+-- Whether a counter wraps in one of n increments.
+abbrev pub wraps_within : {Gen : Type 0} → (Gen → Bool) → (Gen → Gen) → ℕ → Gen → Bool
+wraps_within wraps following zero g = false
+wraps_within wraps following (suc n) g = wraps_within wraps following n g || wraps (counter_after following n g)
 
 -- A new arena has capacity for n entries, or a positive n is refused.
 abbrev pub StartsWithCapacity : {A Gen T E : Type 0} → (A → ArenaView Gen T) → Gen → ℕ → ℕ → Result A E → Type 0

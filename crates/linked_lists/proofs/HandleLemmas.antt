@@ -35,8 +35,8 @@ module _ {Gen T : Type 0} (links : LinkMap) (entry : ℕ → Option (Gen × Entr
       (λ later. later)
       (subst (λ (l : List ℕ). IsMember l k.0) (step_ahead links old new q.0 step) (ahead k head has))
 
-module _ {A Gen T : Type 0} {view : A → ArenaView Gen (Entry T)} {entry : A → ℕ → Option (Gen × Entry T)} (state : (a : A) → ArenaState (view a) (entry a)) (interlinks : A → LinkMap) {P : Type 0} (key : P → ℕ × Gen) (a : A) (p : P) where
-  pub reads_handle : (r : Option P) → IsItem (entry a) (key p) → FindsHead (entry a) (interlinks a) key (key p) r → ReadsHandle state interlinks key a p r
+module _ {A Gen T : Type 0} {view : A → ArenaView Gen (Entry T)} {entry : A → ℕ → Option (Gen × Entry T)} (state : (a : A) → ArenaState (view a) (entry a)) (interlinks : A → LinkMap) {P H : Type 0} (key : P → ℕ × Gen) (handle_key : H → ℕ × Gen) (a : A) (p : P) where
+  pub reads_handle : (r : Option H) → IsItem (entry a) (key p) → FindsHead (entry a) (interlinks a) handle_key (key p) r → ReadsHandle state interlinks key handle_key a p r
   reads_handle None item finds = record {
     none = λ no. refl;
     handle = λ h t before after is.
@@ -45,24 +45,24 @@ module _ {A Gen T : Type 0} {view : A → ArenaView Gen (Entry T)} {entry : A �
         let same = walk_has (interlinks a) (key p).0 walk.0 (cyclic (indexes (ring_of h (before ++ (key p, t) ∷ after)))) walk.1 is.chain has h.0 in
         absurd (finds (item_valid (entry a) (key p) item.value item.stored) walk.0 h walk.1 is.are_stored.0 (same.1 (inl refl)));
   }
-  reads_handle (Some q) item (head, walk, is_walk, among) = record {
+  reads_handle (Some k) item (head, walk, is_walk, among) = record {
     none = λ no. absurd (no item);
     handle = λ h t before after is.
         let has = has_item state interlinks a a (key p) (key p, t) h t before after in
-        let same = walk_has (interlinks a) (key p).0 walk (cyclic (indexes (ring_of h (before ++ (key p, t) ∷ after)))) is_walk is.chain has (key q).0 in
-        ap (λ (k : ℕ × Gen). Some k) (only_head state interlinks a (key q) h (before ++ (key p, t) ∷ after) head is (same.0 among));
+        let same = walk_has (interlinks a) (key p).0 walk (cyclic (indexes (ring_of h (before ++ (key p, t) ∷ after)))) is_walk is.chain has (handle_key k).0 in
+        ap (λ (j : ℕ × Gen). Some j) (only_head state interlinks a (handle_key k) h (before ++ (key p, t) ∷ after) head is (same.0 among));
   }
 
-  pub no_handle : (IsItem (entry a) (key p) → ⊥) → ReadsHandle state interlinks key a p None
+  pub no_handle : (IsItem (entry a) (key p) → ⊥) → ReadsHandle state interlinks key handle_key a p None
   no_handle not_item = record { none = λ none. refl; handle = λ h t before after is. absurd (not_item (record { value = t; stored = item_of state interlinks a h (key p) t before after is })) }
 
-  pub handle_found : (t : T) → HasPlace state interlinks a (key p) t → (h : P) → ReadsHandle state interlinks key a p (Some h) → IsHandle (entry a) (key h)
+  pub handle_found : (t : T) → HasPlace state interlinks a (key p) t → (h : H) → ReadsHandle state interlinks key handle_key a p (Some h) → IsHandle (entry a) (handle_key h)
   handle_found t at h reads = subst (IsHandle (entry a)) (sym (one_some (reads.handle at.handle t at.before at.after at.list))) at.list.are_stored.0
 
-  pub handle_there : (t : T) → HasPlace state interlinks a (key p) t → ReadsHandle state interlinks key a p None → ⊥
+  pub handle_there : (t : T) → HasPlace state interlinks a (key p) t → ReadsHandle state interlinks key handle_key a p None → ⊥
   handle_there t at reads = absurd (let none = reads.handle at.handle t at.before at.after at.list in cc)
 
-  pub ends_list_of : (h l : P) → ReadsHandle state interlinks key a p (Some h) → EndsList state interlinks a (key h) (key l) → EndsListOf state interlinks a (key p) (key l)
+  pub ends_list_of : (h : H) (l : P) → ReadsHandle state interlinks key handle_key a p (Some h) → EndsList state interlinks a (handle_key h) (key l) → EndsListOf state interlinks a (key p) (key l)
   ends_list_of h l reads last k t before after is =
       let same = one_some (reads.handle k t before after is) in
       subst (λ (q : ℕ × Gen). Some (key l) ≡ last_key (ring_of q (before ++ (key p, t) ∷ after))) same (last (before ++ (key p, t) ∷ after) (subst (λ (q : ℕ × Gen). IsList state interlinks a q (before ++ (key p, t) ∷ after)) (sym same) is))

@@ -8,7 +8,7 @@ use Rattle.arena_core.specs.Invalidation.{invalidation_result, is_overflow_resul
 use Rattle.arena_core.specs.PointerKinds.{PointerKind}
 use Rattle.arena_core.specs.declared.invalidation.InvalidationResult.{InvalidationResult}
 use Rattle.arena_core.specs.declared.invalidation.InvalidationResult.TheVariants as outcome
-use Rattle.arena_traits.specs.CallOutcomes.{ReportsOverflow}
+use Rattle.arena_traits.specs.CallOutcomes.{ReportsOverflow, counter_after, wraps_within}
 use Rattle.chain_laws.specs.Chains.{LinkMap, cyclic, IsMember}
 use Rattle.chain_laws.proofs.InterlinkLemmas.Inverses.{one_some}
 use Rattle.chain_laws.proofs.ListLemmas.Members.{IsMember-left, IsMember-right, IsMember-parts}
@@ -16,7 +16,7 @@ use Rattle.arena_traits.specs.Entries.{ArenaView, ArenaState, count, index_of, v
 use Rattle.chain_lists.specs.Lists as rings
 use Rattle.chain_lists.specs.Lists.{Item, indexes}
 use Rattle.linked_lists.specs.declared.entry.Entry.{Entry}
-use Rattle.linked_lists.specs.LinkedLists.{ring_of, view_after_removals, counter_after, wraps_within, IsHandle, HasItem, IsItem, IsList, EachInList, AllInLists, KeepsOthers, AreEntriesRemoved, IsListRemoved, LeavesList, RemovesListItem, ReadsFirst, RemovesList}
+use Rattle.linked_lists.specs.LinkedLists.{ring_of, view_after_removals, IsHandle, HasItem, IsItem, IsList, EachInList, AllInLists, KeepsOthers, AreEntriesRemoved, IsListRemoved, LeavesList, RemovesListItem, ReadsFirst, RemovesList}
 use Rattle.linked_lists.specs.RingCalls.{EmptiesList}
 use Rattle.linked_lists.proofs.ListLemmas.{same_handle, links_of_handle, head_valid}
 

@@ -87,9 +87,9 @@ module _ {A Gen T : Type 0} {view : A → ArenaView Gen (Entry T)} {entry : A �
       head = then_kept q started.head kept;
     }
 
-  pub splits_list : {P : Type 0} (key : P → ℕ × Gen) (greatest : ℕ) (p q l : P) → IsItem (entry old) (key p) → IsListStarted state interlinks old mid (key q) → GrowsForOneMore greatest (view old) (view mid)
-      → IsValid (entry old) (key l) → EndsListOf state interlinks old (key p) (key l) → (r : Option Unit) → SplicesAfter state interlinks key mid q p l r new → SplitsList state interlinks key greatest old p (Ok (Some q)) new
-  splits_list key greatest p q l item started grows valid ends None is = absurd (is (record {
+  pub splits_list : {P H : Type 0} (key : P → ℕ × Gen) (handle_key : H → ℕ × Gen) (greatest : ℕ) (p : P) (h : H) (q l : P) → handle_key h ≡ key q → IsItem (entry old) (key p) → IsListStarted state interlinks old mid (key q) → GrowsForOneMore greatest (view old) (view mid)
+      → IsValid (entry old) (key l) → EndsListOf state interlinks old (key p) (key l) → (r : Option Unit) → SplicesAfter state interlinks key mid q p l r new → SplitsList state interlinks key handle_key greatest old p (Ok (Some h)) new
+  splits_list key handle_key greatest p h q l same item started grows valid ends None is = absurd (is (record {
     p_valid = record { value = entries.Head; stored = started.head.entries.stored };
     first_valid = still_valid (key p) (item_valid (entry old) (key p) item.value item.stored);
     last_valid = still_valid (key l) valid;
@@ -101,9 +101,9 @@ module _ {A Gen T : Type 0} {view : A → ArenaView Gen (Entry T)} {entry : A �
 
       still_valid : (k : ℕ × Gen) → IsValid (entry old) k → IsValid (entry mid) k
       still_valid k there = record { value = there.value; stored = started.head.entries.rest k.0 (is_new k there) ∙ there.stored }
-  splits_list key greatest p q l item started grows valid ends (Some done) is =
+  splits_list key handle_key greatest p h q l same item started grows valid ends (Some done) is =
       let kept = entries_kept state interlinks mid new (key p) is.1.view_after in
-      (item, is_split_off (key p) (key q) (key l) started ends is.1.chains kept, subst (λ (s : ArenaView Gen (Entry T)). GrowsForOneMore greatest (view old) s) (sym kept.1) grows)
+      (item, subst (IsSplit state interlinks old new (key p)) (sym same) (is_split_off (key p) (key q) (key l) started ends is.1.chains kept), subst (λ (s : ArenaView Gen (Entry T)). GrowsForOneMore greatest (view old) s) (sym kept.1) grows)
 
 module _ {A Gen T : Type 0} {view : A → ArenaView Gen (Entry T)} {entry : A → ℕ → Option (Gen × Entry T)} (state : (a : A) → ArenaState (view a) (entry a)) (interlinks : A → LinkMap) (old new : A) (p q : ℕ × Gen) where
   pub each_split : EachInList state interlinks old → IsItem (entry old) p → IsSplit state interlinks old new p q → EachInList state interlinks new

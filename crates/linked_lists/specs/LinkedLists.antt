@@ -1,6 +1,6 @@
 -- Linked lists in an arena of links: what is a list, and what the calls of `LinkedLists` read and
 -- change.
-use Rattle.std.specs.Prelude.{◌≡◌, ◌≢◌, ◌↔◌, ℕ, zero, suc, ◌+◌, Bool, false, ◌||◌, List, [], ◌∷◌, ◌++◌, map, length, IsSome, IfSome, OnErr, Option, None, Some, Result, Ok, Err}
+use Rattle.std.specs.Prelude.{◌≡◌, ◌≢◌, ◌↔◌, ℕ, suc, ◌+◌, Bool, List, [], ◌∷◌, ◌++◌, map, length, IsSome, IfSome, OnErr, Option, None, Some, Result, Ok, Err}
 use Rattle.std.specs.Option.{option_map}
 use Rattle.std.specs.Borrow.{Bor}
 use Rattle.arena_core.specs.PointerKinds.{PointerKind}
@@ -9,7 +9,7 @@ use Rattle.arena_core.specs.declared.errors.ReallocationError.{ReallocationError
 use Rattle.arena_core.specs.declared.invalidation.InvalidationResult.{InvalidationResult}
 use Rattle.chain_laws.specs.Chains.{LinkMap, IsMember}
 use Rattle.arena_traits.specs.Entries.{ArenaView, ArenaState, count, first_key, last_key, view_with_value, view_after_removal}
-use Rattle.arena_traits.specs.CallOutcomes.{IsEntryInserted, IsEntryRemoved, ReportsOverflow}
+use Rattle.arena_traits.specs.CallOutcomes.{IsEntryInserted, IsEntryRemoved, ReportsOverflow, wraps_within}
 use Rattle.arena_traits.specs.Growth.{IsGrowthResult, RefusesOneMore, GrowsForOneMore}
 use Rattle.chain_links.specs.Insertions.{IsInsertionResult}
 use Rattle.chain_lists.specs.Lists.{Item, indexes, IsRing}
@@ -25,15 +25,6 @@ IsNoneOf (h ∷ hs) k = (k ≢ h) × IsNoneOf hs k
 abbrev pub view_after_removals : {Gen V : Type 0} → (Gen → Gen) → ArenaView Gen V → List ℕ → ArenaView Gen V
 view_after_removals following s [] = s
 view_after_removals following s (i ∷ rest) = view_after_removals following (view_after_removal following s i) rest
-
--- The counter after so many removals, and whether it wraps within so many.
-abbrev pub counter_after : {Gen : Type 0} → (Gen → Gen) → ℕ → Gen → Gen
-counter_after following zero g = g
-counter_after following (suc n) g = following (counter_after following n g)
-
-abbrev pub wraps_within : {Gen : Type 0} → (Gen → Bool) → (Gen → Gen) → ℕ → Gen → Bool
-wraps_within wraps following zero g = false
-wraps_within wraps following (suc n) g = wraps_within wraps following n g || wraps (counter_after following n g)
 
 module _ {Gen T : Type 0} where
   -- The entry of an item, and the ring of a list: its head, then its items.
@@ -265,10 +256,10 @@ module _ {A Gen T : Type 0} {view : A → ArenaView Gen (Entry T)} {entry : A �
     }
 
     -- `list_of`: the handle of the list of `p`, if `p` is an item.
-    abbrev pub ReadsHandle : A → P → Option P → Type 0
-    ReadsHandle arena p result = record {
+    abbrev pub ReadsHandle : {H : Type 0} → (H → ℕ × Gen) → A → P → Option H → Type 0
+    ReadsHandle handle_key arena p result = record {
       none : ¬ IsItem (entry arena) (key p) → result ≡ None;
-      handle : (h : ℕ × Gen) (t : T) (before after : List (Item Gen T)) → IsList state interlinks arena h (before ++ (key p, t) ∷ after) → option_map key result ≡ Some h;
+      handle : (h : ℕ × Gen) (t : T) (before after : List (Item Gen T)) → IsList state interlinks arena h (before ++ (key p, t) ∷ after) → option_map handle_key result ≡ Some h;
     }
 
     -- `walk`: the pointers are those of the items of the list of `h`.
@@ -303,11 +294,11 @@ module _ {A Gen T : Type 0} {view : A → ArenaView Gen (Entry T)} {entry : A �
     InsertsBeforeItem greatest old p t result new = AddsItem greatest (IsItem (entry old) (key p)) (λ a b. GrowsBefore state interlinks a b (key p)) old t result new
 
     -- `split_at`: the items from `p` on are moved to a new list, if `p` is an item.
-    abbrev pub SplitsList : ℕ → A → P → Result (Option P) ReallocationError → A → Type 0
-    SplitsList greatest old p (Ok None) new = (IsItem (entry old) (key p) → ⊥) × (new ≡ old)
-    SplitsList greatest old p (Ok (Some q)) new =
-        IsItem (entry old) (key p) × IsSplit state interlinks old new (key p) (key q) × GrowsForOneMore greatest (view old) (view new)
-    SplitsList greatest old p (Err why) new = IsItem (entry old) (key p) × RefusesOneMore (view old) why × (new ≡ old)
+    abbrev pub SplitsList : {H : Type 0} → (H → ℕ × Gen) → ℕ → A → P → Result (Option H) ReallocationError → A → Type 0
+    SplitsList handle_key greatest old p (Ok None) new = (IsItem (entry old) (key p) → ⊥) × (new ≡ old)
+    SplitsList handle_key greatest old p (Ok (Some h)) new =
+        IsItem (entry old) (key p) × IsSplit state interlinks old new (key p) (handle_key h) × GrowsForOneMore greatest (view old) (view new)
+    SplitsList handle_key greatest old p (Err why) new = IsItem (entry old) (key p) × RefusesOneMore (view old) why × (new ≡ old)
 
   -- `replace`: the value of `p` becomes `t`, and the former one is returned, if `p` is an item.
   abbrev pub ReplacesItem : A → ℕ × Gen → T → Option T → A → Type 0

@@ -4,11 +4,12 @@ use Rattle.std.specs.Option.{option_map}
 use Rattle.chain_laws.specs.Chains.{LinkMap, IsMember}
 use Rattle.chain_laws.specs.Walks.{IsWalk}
 use Rattle.arena_traits.specs.Arena.{IsValid}
+use Rattle.arena_traits.specs.CallOutcomes.{wraps_within}
 use Rattle.arena_traits.specs.Entries.{ArenaView, ArenaState, first_key, last_key}
 use Rattle.chain_lists.specs.Lists.{Item, indexes, IsRing}
 use Rattle.linked_lists.specs.declared.entry.Entry.{Entry}
 use Rattle.linked_lists.specs.declared.entry.Entry.TheVariants as entries
-use Rattle.linked_lists.specs.LinkedLists.{IsHandle, IsItem, IsList, AllInLists, IsRangeWithout, KeepsOthers, AreEntriesRemoved, ring_of, wraps_within}
+use Rattle.linked_lists.specs.LinkedLists.{IsHandle, IsItem, IsList, AllInLists, IsRangeWithout, KeepsOthers, AreEntriesRemoved, ring_of}
 
 -- The value of an item.
 abbrev pub value_in : {T : Type 0} → Option (Entry T) → Option T

@@ -5,8 +5,10 @@
 #![tactic(auto)]
 
 mod entry;
+mod handle;
 mod linked_lists;
 mod rings;
 
 pub use entry::Entry;
+pub use handle::ListHandle;
 pub use linked_lists::LinkedLists;

@@ -11,6 +11,7 @@ ghost use Rattle.linked_lists.specs.LinkedLists.{AllInLists, EachInList, IsRange
 ghost use Rattle.linked_lists.specs.RingCalls.{KeepsItemOnly, EndsList, EndsListOf, EmptiesList};
 
 use crate::entry::{Entry, removed_value, value_of};
+use crate::handle::ListHandle;
 use crate::rings::{
     are_same, find_head, is_head, next_link, prev_link, put_after, put_before, range_is_without,
     start_ring, take,
@@ -136,10 +137,10 @@ impl<P: PtrKey, T: Drop, A: ChainArenaTrait<P, Entry<T>> + Drop> LinkedLists<P, 
     }
 
     /// Returns whether `h` is the handle of a list.
-    pub fn is_list(&self, h: P) -> bool
-        ensures { IsTrue result ↔ IsHandle (A.entry self.now) (P.key h) }
+    pub fn is_list(&self, h: ListHandle<P>) -> bool
+        ensures { IsTrue result ↔ IsHandle (A.entry self.now) (P.key h.head) }
     {
-        is_head(&self.arena, h)
+        is_head(&self.arena, h.head)
     }
 
     /// Returns whether `p` is the pointer of an item.
@@ -173,12 +174,12 @@ impl<P: PtrKey, T: Drop, A: ChainArenaTrait<P, Entry<T>> + Drop> LinkedLists<P, 
     }
 
     // Returns the pointer of the last link of a list: its last item, or its head if it is empty.
-    fn last_link(&self, h: P) -> P
-        requires { IsHandle (A.entry self.now) (P.key h) }
+    fn last_link(&self, h: ListHandle<P>) -> P
+        requires { IsHandle (A.entry self.now) (P.key h.head) }
         ensures valid { IsValid (A.entry self.now) (P.key result) }
-        ensures last { EndsList A.state A.interlinks self.now (P.key h) (P.key result) }
+        ensures last { EndsList A.state A.interlinks self.now (P.key h.head) (P.key result) }
     {
-        match prev_link(&self.arena, h) {
+        match prev_link(&self.arena, h.head) {
             Some(last) => last,
             None => unreachable!(),
         }
@@ -186,24 +187,24 @@ impl<P: PtrKey, T: Drop, A: ChainArenaTrait<P, Entry<T>> + Drop> LinkedLists<P, 
 
     /// Returns the pointer of the first item of a list, or `None` if the list is empty or `h` is
     /// not a handle.
-    pub fn first(&self, h: P) -> Option<P>
-        ensures { ReadsFirst A.state A.interlinks P.key self.now h result }
+    pub fn first(&self, h: ListHandle<P>) -> Option<P>
+        ensures { ReadsFirst A.state A.interlinks P.key self.now h.head result }
     {
         if !self.is_list(h) {
             return None;
         }
-        self.item_only(next_link(&self.arena, h))
+        self.item_only(next_link(&self.arena, h.head))
     }
 
     /// Returns the pointer of the last item of a list, or `None` if the list is empty or `h` is not
     /// a handle.
-    pub fn last(&self, h: P) -> Option<P>
-        ensures { ReadsLast A.state A.interlinks P.key self.now h result }
+    pub fn last(&self, h: ListHandle<P>) -> Option<P>
+        ensures { ReadsLast A.state A.interlinks P.key self.now h.head result }
     {
         if !self.is_list(h) {
             return None;
         }
-        self.item_only(prev_link(&self.arena, h))
+        self.item_only(prev_link(&self.arena, h.head))
     }
 
     /// Returns the pointer of the item after an item, or `None` if it is the last one or `p` is not
@@ -231,8 +232,8 @@ impl<P: PtrKey, T: Drop, A: ChainArenaTrait<P, Entry<T>> + Drop> LinkedLists<P, 
     /// Returns the handle of the list that an item is in, or `None` if `p` is not an item.
     ///
     /// Takes as many steps as there are items from `p` on.
-    pub fn list_of(&self, p: P) -> Option<P>
-        ensures { ReadsHandle A.state A.interlinks P.key self.now p result }
+    pub fn list_of(&self, p: P) -> Option<ListHandle<P>>
+        ensures { ReadsHandle A.state A.interlinks P.key (λ h. P.key h.head) self.now p result }
     {
         if !self.is_item(p) {
             return None;
@@ -248,11 +249,11 @@ impl<P: PtrKey, T: Drop, A: ChainArenaTrait<P, Entry<T>> + Drop> LinkedLists<P, 
     /// - `AllocError`: growth would exceed the greatest index, or an allocation failed.
     ///
     /// On error, nothing changes.
-    pub fn new_list(&mut self) -> Result<P, ReallocationError>
-        ensures outcome { CreatesList A.state A.interlinks P.key P.Inx.greatest self.old result
-            self.new }
-        ensures implementation { IfOk result (A.inserts self.old kinds.SingleLinkCyclic Entry.Head
-            self.new) }
+    pub fn new_list(&mut self) -> Result<ListHandle<P>, ReallocationError>
+        ensures outcome { CreatesList A.state A.interlinks (λ h. P.key h.head) P.Inx.greatest
+            self.old result self.new }
+        ensures implementation { IfOk result (λ h. A.inserts self.old kinds.SingleLinkCyclic
+            Entry.Head self.new h.head) }
     {
         start_ring(&mut self.arena, Entry::Head)
     }
@@ -266,16 +267,16 @@ impl<P: PtrKey, T: Drop, A: ChainArenaTrait<P, Entry<T>> + Drop> LinkedLists<P, 
     /// - `AllocError`: growth would exceed the greatest index, or an allocation failed.
     ///
     /// On error, nothing changes and the value is dropped.
-    pub fn push_front(&mut self, h: P, value: T) -> Result<P, ChainInsertionError>
-        ensures outcome { PushesFront A.state A.interlinks P.key P.Inx.greatest self.old h value
+    pub fn push_front(&mut self, h: ListHandle<P>, value: T) -> Result<P, ChainInsertionError>
+        ensures outcome { PushesFront A.state A.interlinks P.key P.Inx.greatest self.old h.head value
             result self.new }
-        ensures implementation { IfOk result (A.inserts self.old (kinds.NextTo h) (Entry.Item value)
+        ensures implementation { IfOk result (A.inserts self.old (kinds.NextTo h.head) (Entry.Item value)
             self.new) }
     {
         if !self.is_list(h) {
             return Err(ChainInsertionError::FailedLinkRequirement);
         }
-        put_after(&mut self.arena, h, Entry::Item(value))
+        put_after(&mut self.arena, h.head, Entry::Item(value))
     }
 
     /// Inserts an item at the end of a list and returns its pointer.
@@ -287,16 +288,16 @@ impl<P: PtrKey, T: Drop, A: ChainArenaTrait<P, Entry<T>> + Drop> LinkedLists<P, 
     /// - `AllocError`: growth would exceed the greatest index, or an allocation failed.
     ///
     /// On error, nothing changes and the value is dropped.
-    pub fn push_back(&mut self, h: P, value: T) -> Result<P, ChainInsertionError>
-        ensures outcome { PushesBack A.state A.interlinks P.key P.Inx.greatest self.old h value
+    pub fn push_back(&mut self, h: ListHandle<P>, value: T) -> Result<P, ChainInsertionError>
+        ensures outcome { PushesBack A.state A.interlinks P.key P.Inx.greatest self.old h.head value
             result self.new }
-        ensures implementation { IfOk result (A.inserts self.old (kinds.PrevTo h) (Entry.Item value)
+        ensures implementation { IfOk result (A.inserts self.old (kinds.PrevTo h.head) (Entry.Item value)
             self.new) }
     {
         if !self.is_list(h) {
             return Err(ChainInsertionError::FailedLinkRequirement);
         }
-        put_before(&mut self.arena, h, Entry::Item(value))
+        put_before(&mut self.arena, h.head, Entry::Item(value))
     }
 
     /// Inserts an item directly after another one and returns its pointer.
@@ -309,8 +310,8 @@ impl<P: PtrKey, T: Drop, A: ChainArenaTrait<P, Entry<T>> + Drop> LinkedLists<P, 
     ///
     /// On error, nothing changes and the value is dropped.
     pub fn insert_after(&mut self, p: P, value: T) -> Result<P, ChainInsertionError>
-        ensures outcome { InsertsAfterItem A.state A.interlinks P.key P.Inx.greatest self.old p value
-            result self.new }
+        ensures outcome { InsertsAfterItem A.state A.interlinks P.key P.Inx.greatest self.old p
+            value result self.new }
         ensures implementation { IfOk result (A.inserts self.old (kinds.NextTo p) (Entry.Item value)
             self.new) }
     {
@@ -330,8 +331,8 @@ impl<P: PtrKey, T: Drop, A: ChainArenaTrait<P, Entry<T>> + Drop> LinkedLists<P, 
     ///
     /// On error, nothing changes and the value is dropped.
     pub fn insert_before(&mut self, p: P, value: T) -> Result<P, ChainInsertionError>
-        ensures outcome { InsertsBeforeItem A.state A.interlinks P.key P.Inx.greatest self.old p value
-            result self.new }
+        ensures outcome { InsertsBeforeItem A.state A.interlinks P.key P.Inx.greatest self.old p
+            value result self.new }
         ensures implementation { IfOk result (A.inserts self.old (kinds.PrevTo p) (Entry.Item value)
             self.new) }
     {
@@ -407,8 +408,8 @@ impl<P: PtrKey, T: Drop, A: ChainArenaTrait<P, Entry<T>> + Drop> LinkedLists<P, 
     ///
     /// Its pointer and all other items stay. Returns `None` and changes nothing if `p` is not an
     /// item or `h` is not a handle.
-    pub fn move_to_front(&mut self, p: P, h: P) -> Option<()>
-        ensures { MovesToFront A.state A.interlinks self.old (P.key p) (P.key h) result self.new }
+    pub fn move_to_front(&mut self, p: P, h: ListHandle<P>) -> Option<()>
+        ensures { MovesToFront A.state A.interlinks self.old (P.key p) (P.key h.head) result self.new }
     {
         if !self.is_item(p) {
             return None;
@@ -416,15 +417,15 @@ impl<P: PtrKey, T: Drop, A: ChainArenaTrait<P, Entry<T>> + Drop> LinkedLists<P, 
         if !self.is_list(h) {
             return None;
         }
-        self.arena.move_after(p, h)
+        self.arena.move_after(p, h.head)
     }
 
     /// Moves an item to the end of a list, its own or another one.
     ///
     /// Its pointer and all other items stay. Returns `None` and changes nothing if `p` is not an
     /// item or `h` is not a handle.
-    pub fn move_to_back(&mut self, p: P, h: P) -> Option<()>
-        ensures { MovesToBack A.state A.interlinks self.old (P.key p) (P.key h) result self.new }
+    pub fn move_to_back(&mut self, p: P, h: ListHandle<P>) -> Option<()>
+        ensures { MovesToBack A.state A.interlinks self.old (P.key p) (P.key h.head) result self.new }
     {
         if !self.is_item(p) {
             return None;
@@ -478,27 +479,27 @@ impl<P: PtrKey, T: Drop, A: ChainArenaTrait<P, Entry<T>> + Drop> LinkedLists<P, 
     ///
     /// Pointers and all other items stay. `is_range_without` tests the requirement: a handle is in
     /// no range. Returns `None` and changes nothing if `h` is not a handle.
-    pub fn move_range_to_front(&mut self, first: P, last: P, h: P) -> Option<()>
+    pub fn move_range_to_front(&mut self, first: P, last: P, h: ListHandle<P>) -> Option<()>
         requires { IsRangeWithout A.state A.interlinks self.old (P.key first) (P.key last)
-            (P.key h) }
+            (P.key h.head) }
         ensures { MovesRangeToFront A.state A.interlinks self.old (P.key first) (P.key last)
-            (P.key h) result self.new }
+            (P.key h.head) result self.new }
     {
         if !self.is_list(h) {
             return None;
         }
-        self.arena.splice_after(h, first, last)
+        self.arena.splice_after(h.head, first, last)
     }
 
     /// Moves a range of items to the end of a list, their own or another one, in O(1).
     ///
     /// Pointers and all other items stay. `is_range_without` tests the requirement: a handle is in
     /// no range. Returns `None` and changes nothing if `h` is not a handle.
-    pub fn move_range_to_back(&mut self, first: P, last: P, h: P) -> Option<()>
+    pub fn move_range_to_back(&mut self, first: P, last: P, h: ListHandle<P>) -> Option<()>
         requires { IsRangeWithout A.state A.interlinks self.old (P.key first) (P.key last)
-            (P.key h) }
+            (P.key h.head) }
         ensures { MovesRangeToBack A.state A.interlinks self.old (P.key first) (P.key last)
-            (P.key h) result self.new }
+            (P.key h.head) result self.new }
     {
         if !self.is_list(h) {
             return None;
@@ -531,8 +532,8 @@ impl<P: PtrKey, T: Drop, A: ChainArenaTrait<P, Entry<T>> + Drop> LinkedLists<P, 
     ///
     /// The list of `k` is empty then, and its handle stays valid. Pointers to items stay. Returns
     /// `None` and changes nothing if `h` or `k` is not a handle, or if both are the same handle.
-    pub fn join(&mut self, h: P, k: P) -> Option<()>
-        ensures { JoinsLists A.state A.interlinks self.old (P.key h) (P.key k) result self.new }
+    pub fn join(&mut self, h: ListHandle<P>, k: ListHandle<P>) -> Option<()>
+        ensures { JoinsLists A.state A.interlinks self.old (P.key h.head) (P.key k.head) result self.new }
     {
         if !self.is_list(h) {
             return None;
@@ -540,7 +541,7 @@ impl<P: PtrKey, T: Drop, A: ChainArenaTrait<P, Entry<T>> + Drop> LinkedLists<P, 
         if !self.is_list(k) {
             return None;
         }
-        if are_same(h, k) {
+        if are_same(h.head, k.head) {
             return None;
         }
         match self.first(k) {
@@ -578,17 +579,18 @@ impl<P: PtrKey, T: Drop, A: ChainArenaTrait<P, Entry<T>> + Drop> LinkedLists<P, 
     /// - `AllocError`: growth would exceed the greatest index, or an allocation failed.
     ///
     /// On error, nothing changes.
-    pub fn split_at(&mut self, p: P) -> Result<Option<P>, ReallocationError>
-        ensures { SplitsList A.state A.interlinks P.key P.Inx.greatest self.old p result self.new }
+    pub fn split_at(&mut self, p: P) -> Result<Option<ListHandle<P>>, ReallocationError>
+        ensures { SplitsList A.state A.interlinks P.key (λ h. P.key h.head) P.Inx.greatest self.old
+            p result self.new }
     {
         if !self.is_item(p) {
             return Ok(None);
         }
         self.all_in_lists();
         let last = self.end_of_list_of(p);
-        let q = self.new_list()?;
-        self.arena.splice_after(q, p, last);
-        Ok(Some(q))
+        let h = self.new_list()?;
+        self.arena.splice_after(h.head, p, last);
+        Ok(Some(h))
     }
 
     /// Returns the pointers of the items of a list, in order, or `None` if `h` is not a handle.
@@ -596,10 +598,10 @@ impl<P: PtrKey, T: Drop, A: ChainArenaTrait<P, Entry<T>> + Drop> LinkedLists<P, 
     /// # Errors
     ///
     /// - `AllocError`: an allocation failed.
-    pub fn walk(&self, alloc: Global, h: P) -> Result<Option<Vec<P>>, AllocError>
-        ensures some { IfOk result (λ r. IsSome r ↔ IsHandle (A.entry self.now) (P.key h)) }
+    pub fn walk(&self, alloc: Global, h: ListHandle<P>) -> Result<Option<Vec<P>>, AllocError>
+        ensures some { IfOk result (λ r. IsSome r ↔ IsHandle (A.entry self.now) (P.key h.head)) }
         ensures items { IfOk result (λ r. IfSome r (λ pointers. ListsItems A.state A.interlinks
-            P.key self.now h pointers.items)) }
+            P.key self.now h.head pointers.items)) }
     {
         self.all_in_lists();
         if !self.is_list(h) {
@@ -616,9 +618,9 @@ impl<P: PtrKey, T: Drop, A: ChainArenaTrait<P, Entry<T>> + Drop> LinkedLists<P, 
 
     // Removes all items of a list, from the first one on, and returns how many they were, and
     // whether the generation counter wrapped.
-    fn remove_items(&mut self, h: P) -> (usize, bool)
-        requires { IsHandle (A.entry self.old) (P.key h) }
-        ensures { EmptiesList A.state A.interlinks P.Gen.wraps P.Gen.following self.old (P.key h)
+    fn remove_items(&mut self, h: ListHandle<P>) -> (usize, bool)
+        requires { IsHandle (A.entry self.old) (P.key h.head) }
+        ensures { EmptiesList A.state A.interlinks P.Gen.wraps P.Gen.following self.old (P.key h.head)
             result self.new }
     {
         self.all_in_lists();
@@ -636,15 +638,15 @@ impl<P: PtrKey, T: Drop, A: ChainArenaTrait<P, Entry<T>> + Drop> LinkedLists<P, 
     /// All other lists and the capacity stay the same. Returns `GenerationOverflow` if the
     /// generation counter wrapped: pointers that were removed may then become valid again. Returns
     /// `InvalidPtr` and changes nothing if `h` is not a handle.
-    pub fn remove_list(&mut self, h: P) -> InvalidationResult<usize>
-        ensures { RemovesList A.state A.interlinks P.Gen.wraps P.Gen.following self.old (P.key h)
+    pub fn remove_list(&mut self, h: ListHandle<P>) -> InvalidationResult<usize>
+        ensures { RemovesList A.state A.interlinks P.Gen.wraps P.Gen.following self.old (P.key h.head)
             result self.new }
     {
         if !self.is_list(h) {
             return InvalidationResult::InvalidPtr;
         }
         let (items, mut wrapped) = self.remove_items(h);
-        let (_, overflow) = take(&mut self.arena, h).overflowing();
+        let (_, overflow) = take(&mut self.arena, h.head).overflowing();
         wrapped |= overflow;
         InvalidationResult::from_overflow(wrapped, items)
     }

@@ -9,6 +9,7 @@ ghost use Rattle.linked_lists.specs.LinkedLists.{IsHandle};
 ghost use Rattle.linked_lists.specs.RingCalls.{ReadsNextLink, ReadsPrevLink, FindsHead, TestsRange};
 
 use crate::entry::Entry;
+use crate::handle::ListHandle;
 use arena_ptr::{
     AnyPointer, ChainInsertionError, GenKey, InvalidationResult, InxKey, PtrKey, ReallocationError,
 };
@@ -17,18 +18,21 @@ use chain_links::LinkInsertKind;
 use chain_traits::ChainArenaTrait;
 use chain_traits::walks::advancer_passes_the_walk;
 
-// Creates a ring of one link and returns the link's pointer.
+// Creates a ring of one link and returns its handle.
 pub(crate) fn start_ring<P: PtrKey, V: Drop, A: ChainArenaTrait<P, V>>(
     arena: &mut A,
     value: V,
-) -> Result<P, ReallocationError>
-    ensures outcome { StartsList A.state A.interlinks cyclic P.key P.Inx.greatest
+) -> Result<ListHandle<P>, ReallocationError>
+    ensures outcome { StartsList A.state A.interlinks cyclic (λ h. P.key h.head) P.Inx.greatest
         arena.old value result arena.new }
-    ensures implementation { IfOk result (A.inserts arena.old kinds.SingleLinkCyclic value
-        arena.new) }
+    ensures implementation { IfOk result (λ h. A.inserts arena.old kinds.SingleLinkCyclic value
+        arena.new h.head) }
 {
     arena.agrees();
-    arena.insert(LinkInsertKind::SingleLinkCyclic, value)
+    match arena.insert(LinkInsertKind::SingleLinkCyclic, value) {
+        Ok(head) => Ok(ListHandle { head }),
+        Err(why) => Err(why),
+    }
 }
 
 // Inserts a link directly after another one and returns its pointer.
@@ -114,8 +118,9 @@ pub(crate) fn is_head<P: PtrKey, T: Drop, A: ChainArenaTrait<P, Entry<T>>>(arena
 pub(crate) fn find_head<P: PtrKey, T: Drop, A: ChainArenaTrait<P, Entry<T>>>(
     arena: &A,
     p: P,
-) -> Option<P>
-    ensures { FindsHead (A.entry arena.now) (A.interlinks arena.now) P.key (P.key p) result }
+) -> Option<ListHandle<P>>
+    ensures { FindsHead (A.entry arena.now) (A.interlinks arena.now) (λ h. P.key h.head) (P.key p)
+        result }
 {
     advancer_passes_the_walk(arena, p);
     let mut along = match arena.advancer_chain(p) {
@@ -124,7 +129,7 @@ pub(crate) fn find_head<P: PtrKey, T: Drop, A: ChainArenaTrait<P, Entry<T>>>(
     };
     while let Some(q) = along.advance(arena) {
         if is_head(arena, q) {
-            return Some(q);
+            return Some(ListHandle { head: q });
         }
     }
     None

@@ -6,7 +6,7 @@ use Rattle.std.proofs.lemmas.Bool.{cases_eq, eq-eqb, ne_eqb}
 use Rattle.arena_core.specs.Invalidation.{invalidation_result, value_within, is_overflow_result}
 use Rattle.arena_core.specs.declared.invalidation.InvalidationResult.{InvalidationResult}
 use Rattle.arena_core.specs.declared.invalidation.InvalidationResult.TheVariants.{Success, GenerationOverflow, InvalidPtr}
-use Rattle.arena_traits.specs.CallOutcomes.{ReportsOverflow}
+use Rattle.arena_traits.specs.CallOutcomes.{ReportsOverflow, counter_after, wraps_within}
 use Rattle.arena_traits.specs.Entries.{ArenaView, AscendsFrom, count, found, without_index, with_replacement, view_with_value, view_after_removal}
 use Rattle.arena_traits.proofs.EntryChangeLemmas.{valued, writes_first, writes_later, found-written}
 use Rattle.arena_traits.proofs.EntrySearchLemmas.{found-gone, found-kept}
@@ -14,7 +14,7 @@ use Rattle.chain_laws.specs.Chains.{IsMember}
 use Rattle.chain_laws.proofs.ListLemmas.Members.{IsMember-or_not}
 use Rattle.surject_arena.specs.Surjections.{Surjection, entry_in, set_at, IsKey, IsKeyOf, AreInOneSet, HasValue, SharesSet, IsAlone, IsSurjection}
 use Rattle.surject_arena.specs.SetCalls.{IsKeyTaken}
-use Rattle.surject_arena.specs.SetRemovals.{view_after_removals, counter_after, wraps_within, IsSetRemoved, IsSetReduced}
+use Rattle.surject_arena.specs.SetRemovals.{view_after_removals, IsSetRemoved, IsSetReduced}
 use Rattle.surject_arena.proofs.EntrySumLemmas.{length-without}
 use Rattle.surject_arena.proofs.OptionLemmas.{same_some, none_some}
 

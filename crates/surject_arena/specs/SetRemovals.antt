@@ -1,8 +1,8 @@
 -- Removals of whole sets.
-use Rattle.std.specs.Prelude.{◌≡◌, ◌≢◌, ℕ, zero, suc, ◌+◌, ◌||◌, List, [], ◌∷◌, length, Bool, false, IfSome, None, Some}
+use Rattle.std.specs.Prelude.{◌≡◌, ◌≢◌, ℕ, ◌+◌, List, [], ◌∷◌, length, Bool, IfSome, None, Some}
 use Rattle.arena_core.specs.PointerKinds.{PointerKind}
 use Rattle.arena_core.specs.declared.invalidation.InvalidationResult.{InvalidationResult}
-use Rattle.arena_traits.specs.CallOutcomes.{ReportsOverflow}
+use Rattle.arena_traits.specs.CallOutcomes.{ReportsOverflow, wraps_within}
 use Rattle.arena_traits.specs.Entries.{ArenaView, view_after_removal}
 use Rattle.chain_laws.specs.Chains.{IsMember, AreDistinct}
 use Rattle.surject_arena.specs.Surjections.{Surjection, entry_in, set_at, IsKey, IsKeyOf, HasValue, AreKeysOf}
@@ -11,15 +11,6 @@ use Rattle.surject_arena.specs.Surjections.{Surjection, entry_in, set_at, IsKey,
 abbrev pub view_after_removals : {Gen X : Type 0} → (Gen → Gen) → ArenaView Gen X → List ℕ → ArenaView Gen X
 view_after_removals following s [] = s
 view_after_removals following s (i ∷ indexes) = view_after_removal following (view_after_removals following s indexes) i
-
-abbrev pub counter_after : {Gen : Type 0} → (Gen → Gen) → ℕ → Gen → Gen
-counter_after following zero g = g
-counter_after following (suc n) g = following (counter_after following n g)
-
--- Whether a counter wraps in one of n increments.
-abbrev pub wraps_within : {Gen : Type 0} → (Gen → Bool) → (Gen → Gen) → ℕ → Gen → Bool
-wraps_within wraps following zero g = false
-wraps_within wraps following (suc n) g = wraps_within wraps following n g || wraps (counter_after following n g)
 
 module _ {Gen K V : Type 0} (old new : Surjection Gen K V) where
   pub record IsSetRemoved (following : Gen → Gen) (p : ℕ × Gen) (n : ℕ) (t : V) : Type 0 where

@@ -5,7 +5,7 @@ use Rattle.linked_lists.proofs.linked_lists.LinkedLists.join.Given.{Over}
 use Rattle.linked_lists.proofs.linked_lists.LinkedLists.join.Goals.{After-splice_after}
 use Rattle.linked_lists.proofs.linked_lists.LinkedLists.join.Goals as goal
 
-appended : (g : Over) (c : After-splice_after g) → JoinsLists g.A.ArenaTrait.state g.A.ChainArenaTrait.interlinks c.self.inside.arena (g.P.PtrKey.key c.args.h) (g.P.PtrKey.key c.args.k) c.splice_after.result c.splice_after.new.self
+appended : (g : Over) (c : After-splice_after g) → JoinsLists g.A.ArenaTrait.state g.A.ChainArenaTrait.interlinks c.self.inside.arena (g.P.PtrKey.key c.args.h.head) (g.P.PtrKey.key c.args.k.head) c.splice_after.result c.splice_after.new.self
 appended g c =
     let head = rw (← c.self.view_is) at (c.if-not-is_list.ensures.0 refl) in
     let also = rw (← c.self.view_is) at (c.if-not-is_list-2.ensures.0 refl) in
@@ -14,7 +14,7 @@ appended g c =
     let end_valid = rw (← c.self.view_is) at c.last_link-end.ensures.valid in
     let last = rw (← c.self.view_is) at c.last_link-last.ensures.last in
     let last_valid = rw (← c.self.view_is) at c.last_link-last.ensures.valid in
-    appends_run g.A.ArenaTrait.state g.A.ChainArenaTrait.interlinks g.P.PtrKey.key c.self.inside.arena c.splice_after.new.self c.args.h c.args.k c.self.invariant head also
+    appends_run g.A.ArenaTrait.state g.A.ChainArenaTrait.interlinks g.P.PtrKey.key c.self.inside.arena c.splice_after.new.self c.args.h.head c.args.k.head c.self.invariant head also
     (λ same. absurd (let yes = c.are_same.ensures.1 same in let no = c.if-are_same.false in cc))
     c.last_link-end.result c.in-Some.first c.last_link-last.result end last end_valid last_valid first c.splice_after.result c.splice_after.ensures.outcome c.splice_after.ensures.none
 
@@ -29,8 +29,8 @@ returns-in-None g c =
     let head = rw (← c.self.view_is) at (c.if-not-is_list.ensures.0 refl) in
     let also = rw (← c.self.view_is) at (c.if-not-is_list-2.ensures.0 refl) in
     let none = rw (← c.self.view_is) at c.in-None.ensures in
-    rw (← c.self.view_is) (joins_nothing g.A.ArenaTrait.state g.A.ChainArenaTrait.interlinks g.P.PtrKey.key c.self.inside.arena c.self.inside.arena c.args.h c.args.k c.self.invariant head also
+    rw (← c.self.view_is) (joins_nothing g.A.ArenaTrait.state g.A.ChainArenaTrait.interlinks g.P.PtrKey.key c.self.inside.arena c.self.inside.arena c.args.h.head c.args.k.head c.self.invariant head also
     (λ same. absurd (let yes = c.are_same.ensures.1 same in let no = c.if-are_same.false in cc)) none refl)
 
 pub invariant_of-self : goal.invariant_of-self
-invariant_of-self g c = each_joined g.A.ArenaTrait.state g.A.ChainArenaTrait.interlinks c.self.inside.arena c.splice_after.new.self (g.P.PtrKey.key c.args.h) (g.P.PtrKey.key c.args.k) c.self.invariant c.splice_after.result (appended g c)
+invariant_of-self g c = each_joined g.A.ArenaTrait.state g.A.ChainArenaTrait.interlinks c.self.inside.arena c.splice_after.new.self (g.P.PtrKey.key c.args.h.head) (g.P.PtrKey.key c.args.k.head) c.self.invariant c.splice_after.result (appended g c)

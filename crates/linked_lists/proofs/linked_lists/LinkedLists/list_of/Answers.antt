@@ -5,7 +5,7 @@ use Rattle.linked_lists.proofs.linked_lists.LinkedLists.list_of.Goals as goal
 pub returns : goal.returns
 returns g c =
     let item = rw (← c.self.view_is) at (c.if-not-is_item.ensures.0 refl) in
-    rw (← c.self.view_is) (reads_handle g.A.ArenaTrait.state g.A.ChainArenaTrait.interlinks g.P.PtrKey.key c.self.inside.arena c.args.p c.find_head.result item c.find_head.ensures)
+    rw (← c.self.view_is) (reads_handle g.A.ArenaTrait.state g.A.ChainArenaTrait.interlinks g.P.PtrKey.key (λ h. g.P.PtrKey.key h.head) c.self.inside.arena c.args.p c.find_head.result item c.find_head.ensures)
 
 pub returns-then-not-is_item : goal.returns-then-not-is_item
-returns-then-not-is_item g c = no_handle g.A.ArenaTrait.state g.A.ChainArenaTrait.interlinks g.P.PtrKey.key c.args.self.now c.args.p (λ item. absurd (let yes = c.is_item.ensures.1 item in let no = c.if-not-is_item.true in cc))
+returns-then-not-is_item g c = no_handle g.A.ArenaTrait.state g.A.ChainArenaTrait.interlinks g.P.PtrKey.key (λ h. g.P.PtrKey.key h.head) c.args.self.now c.args.p (λ item. absurd (let yes = c.is_item.ensures.1 item in let no = c.if-not-is_item.true in cc))

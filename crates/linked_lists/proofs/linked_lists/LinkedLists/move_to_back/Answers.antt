@@ -6,13 +6,13 @@ use Rattle.linked_lists.proofs.linked_lists.LinkedLists.move_to_back.Given.{Over
 use Rattle.linked_lists.proofs.linked_lists.LinkedLists.move_to_back.Goals.{After-move_after}
 use Rattle.linked_lists.proofs.linked_lists.LinkedLists.move_to_back.Goals as goal
 
-moved : (g : Over) (c : After-move_after g) → MovesToBack g.A.ArenaTrait.state g.A.ChainArenaTrait.interlinks c.self.inside.arena (g.P.PtrKey.key c.args.p) (g.P.PtrKey.key c.args.h) c.move_after.result c.move_after.new.self
+moved : (g : Over) (c : After-move_after g) → MovesToBack g.A.ArenaTrait.state g.A.ChainArenaTrait.interlinks c.self.inside.arena (g.P.PtrKey.key c.args.p) (g.P.PtrKey.key c.args.h.head) c.move_after.result c.move_after.new.self
 moved g c =
     let item = rw (← c.self.view_is) at (c.if-not-is_item.ensures.0 refl) in
     let head = rw (← c.self.view_is) at (c.if-not-is_list.ensures.0 refl) in
     let last = rw (← c.self.view_is) at c.last_link-last.ensures.last in
     let valid = rw (← c.self.view_is) at c.last_link-last.ensures.valid in
-    moved_to_back g.A.ArenaTrait.state g.A.ChainArenaTrait.interlinks c.self.inside.arena c.move_after.new.self (g.P.PtrKey.key c.args.p) (g.P.PtrKey.key c.args.h) item head g.P.PtrKey.key c.args.p c.last_link-last.result refl
+    moved_to_back g.A.ArenaTrait.state g.A.ChainArenaTrait.interlinks c.self.inside.arena c.move_after.new.self (g.P.PtrKey.key c.args.p) (g.P.PtrKey.key c.args.h.head) item head g.P.PtrKey.key c.args.p c.last_link-last.result refl
     (λ same. absurd (let yes = c.are_same.ensures.1 same in let no = c.if-are_same.false in cc)) last valid c.move_after.result c.move_after.ensures.outcome c.move_after.ensures.none
 
 pub returns : goal.returns
@@ -22,8 +22,8 @@ pub returns-then-are_same : goal.returns-then-are_same
 returns-then-are_same g c =
     let item = c.if-not-is_item.ensures.0 refl in
     let head = c.if-not-is_list.ensures.0 refl in
-    at_end_already g.A.ArenaTrait.state g.A.ChainArenaTrait.interlinks c.args.self.now c.args.self.now (g.P.PtrKey.key c.args.p) (g.P.PtrKey.key c.args.h) item head refl
-    (subst (EndsList g.A.ArenaTrait.state g.A.ChainArenaTrait.interlinks c.args.self.now (g.P.PtrKey.key c.args.h)) (c.if-are_same.ensures.0 refl) c.last_link-last.ensures.last)
+    at_end_already g.A.ArenaTrait.state g.A.ChainArenaTrait.interlinks c.args.self.now c.args.self.now (g.P.PtrKey.key c.args.p) (g.P.PtrKey.key c.args.h.head) item head refl
+    (subst (EndsList g.A.ArenaTrait.state g.A.ChainArenaTrait.interlinks c.args.self.now (g.P.PtrKey.key c.args.h.head)) (c.if-are_same.ensures.0 refl) c.last_link-last.ensures.last)
 
 pub invariant_of-self : goal.invariant_of-self
-invariant_of-self g c = each_to_back g.A.ArenaTrait.state g.A.ChainArenaTrait.interlinks c.self.inside.arena c.move_after.new.self (g.P.PtrKey.key c.args.p) (g.P.PtrKey.key c.args.h) c.self.invariant c.move_after.result (moved g c)
+invariant_of-self g c = each_to_back g.A.ArenaTrait.state g.A.ChainArenaTrait.interlinks c.self.inside.arena c.move_after.new.self (g.P.PtrKey.key c.args.p) (g.P.PtrKey.key c.args.h.head) c.self.invariant c.move_after.result (moved g c)

@@ -6,7 +6,7 @@ use Rattle.linked_lists.proofs.linked_lists.LinkedLists.push_back.Goals as goal
 pub returns-clause-outcome : goal.returns-clause-outcome
 returns-clause-outcome g c =
     let may = rw (← c.self.view_is) at (c.if-not-is_list.ensures.0 refl) in
-    rw (← c.self.view_is) (pushes_back g.A.ArenaTrait.state g.A.ChainArenaTrait.interlinks g.P.PtrKey.key _ c.self.inside.arena c.put_before.new.arena (g.P.PtrKey.key c.args.h) c.args.value c.put_before.result may c.put_before.ensures.outcome)
+    rw (← c.self.view_is) (pushes_back g.A.ArenaTrait.state g.A.ChainArenaTrait.interlinks g.P.PtrKey.key _ c.self.inside.arena c.put_before.new.arena (g.P.PtrKey.key c.args.h.head) c.args.value c.put_before.result may c.put_before.ensures.outcome)
 
 pub invariant_of-self : goal.invariant_of-self
 invariant_of-self g c =
@@ -14,7 +14,7 @@ invariant_of-self g c =
     let interlinks = g.A.ChainArenaTrait.interlinks in
     let old = c.self.inside.arena in
     let new = c.put_before.new.arena in
-    let p = g.P.PtrKey.key c.args.h in
+    let p = g.P.PtrKey.key c.args.h.head in
     let may = rw (← c.self.view_is) at (c.if-not-is_list.ensures.0 refl) in
     each_added state interlinks g.P.PtrKey.key _ old new p c.args.value c.put_before.result _ (λ a b. GrowsAtEnd state interlinks a b p) c.self.invariant
     (pushes_back state interlinks g.P.PtrKey.key _ old new p c.args.value c.put_before.result may c.put_before.ensures.outcome)

@@ -2,7 +2,8 @@ use Rattle.std.proofs.Common.{suc, length, Some, sym, ap, ◌∙◌}
 use Rattle.std.specs.Prelude.{◌||◌}
 use Rattle.arena_core.specs.Invalidation.{is_overflow_result}
 use Rattle.surject_arena.specs.Surjections.{IsKey}
-use Rattle.surject_arena.specs.SetRemovals.{wraps_within, IsSetRemoved}
+use Rattle.arena_traits.specs.CallOutcomes.{wraps_within}
+use Rattle.surject_arena.specs.SetRemovals.{IsSetRemoved}
 use Rattle.surject_arena.proofs.SetReductionLemmas.{reports_flag, key_returned, last_value_returned, whole_set_removed}
 use Rattle.surject_arena.proofs.surject.SurjectArena.remove.Goals as goal
 
