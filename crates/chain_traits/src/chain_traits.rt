@@ -21,7 +21,7 @@ use arena_ptr::{
 use arena_traits::{Advancer, ArenaTrait};
 use chain_links::{Link, LinkInsertKind, LinkNoGen};
 
-/// An arena whose entries are links in chains.
+/// An arena whose entries are links, each in one linear or cyclic chain.
 ///
 /// Port of `triple_arena::ChainArenaTrait`.
 pub trait ChainArenaTrait<P: PtrKey, T: Drop>: ArenaTrait<P, T> {
@@ -50,14 +50,14 @@ pub trait ChainArenaTrait<P: PtrKey, T: Drop>: ArenaTrait<P, T> {
 
     ghost compresses_canonically: { Self → Self → Type 0 } = { λ _ _. ⊤ };
 
-    /// States that links are well linked.
+    /// States that the interlinks agree: j follows i exactly if i precedes j. Has no effect.
     final fn agrees(&self)
         ensures { IsWellLinked (interlinks self.now) }
     {
         self.get_inx_link_no_gen(P::invalid().inx());
     }
 
-    /// States what holds in every such arena.
+    /// States that the interlinks agree, and that exactly one set of chains has each link once.
     final fn invariants(&self)
         ensures agree { IsWellLinked (interlinks self.now) }
         ensures one { HasOneSetOfChains (interlinks self.now) }
@@ -67,12 +67,12 @@ pub trait ChainArenaTrait<P: PtrKey, T: Drop>: ArenaTrait<P, T> {
         self.len();
     }
 
-    /// Returns whether the kind's requirement is met.
+    /// Returns whether the requirement of a kind on the links beside it is met.
     fn can_insert(&self, kind: LinkInsertKind<P>) -> bool
         ensures { IsTrue result ↔ MayInsertIn Self.state interlinks
             ⟦<P as AnyPointer>⟧.pointers self.now kind };
 
-    /// Inserts a link within the capacity.
+    /// Inserts a link within the capacity and returns its pointer.
     ///
     /// # Errors
     ///
@@ -92,7 +92,7 @@ pub trait ChainArenaTrait<P: PtrKey, T: Drop>: ArenaTrait<P, T> {
         ensures err { OnErr result (self.new ≡ self.old) }
         ensures implementation { IfOk result (inserts self.old kind t self.new) };
 
-    /// Inserts a link; a full arena grows first.
+    /// Inserts a link and returns its pointer; a full arena grows first.
     ///
     /// # Errors
     ///
@@ -111,7 +111,7 @@ pub trait ChainArenaTrait<P: PtrKey, T: Drop>: ArenaTrait<P, T> {
         ensures err { OnErr result (self.new ≡ self.old) }
         ensures implementation { IfOk result (inserts self.old kind t self.new) };
 
-    /// Inserts a link of an allowed kind.
+    /// Inserts a link of a kind that `can_insert`, as `insert_reallocating` does.
     ///
     /// # Errors
     ///
@@ -126,34 +126,34 @@ pub trait ChainArenaTrait<P: PtrKey, T: Drop>: ArenaTrait<P, T> {
         ensures err { OnErr result (self.new ≡ self.old) }
         ensures implementation { IfOk result (inserts self.old kind t self.new) };
 
-    /// Returns whether both are valid and q follows p.
+    /// Returns whether both pointers are valid and q follows p.
     ///
     /// Port of `ChainArenaTrait::are_neighbors`.
     fn are_neighbors(&self, p: P, q: P) -> bool
         ensures { IsTrue result ↔ AreNeighborLinks Self.state interlinks P.key self.now p q };
 
-    /// Returns whether j follows i.
+    /// Returns whether the link at index j follows the link at index i.
     ///
     /// Port of `ChainArenaTrait::are_neighbors_inx`.
     fn are_neighbors_inx(&self, i: P::Inx, j: P::Inx) -> bool
         ensures { IsTrue result ↔ AreNeighbors (interlinks self.now) (P.Inx.number i)
             (P.Inx.number j) };
 
-    /// Returns a link with its neighbors' pointers; `None` if `p` is invalid.
+    /// Returns a link with the pointers of its neighbors, or `None` if `p` is not valid.
     ///
     /// Port of `ChainArenaTrait::get_link`.
     fn get_link(&self, p: P) -> Option<Link<P, &T>>
         ensures outcome { ReadsLink Self.state interlinks P.key self.now p result }
         ensures agree { IsWellLinked (interlinks self.now) };
 
-    /// Returns a link; `None` if `p` is invalid.
+    /// Returns a link with the indexes of its neighbors, or `None` if `p` is not valid.
     ///
     /// Port of `ChainArenaTrait::get_link_no_gen`.
     fn get_link_no_gen(&self, p: P) -> Option<&LinkNoGen<P, T>>
         ensures { ReadsLinkNoGen Self.state interlinks ⟦<P as AnyPointer>⟧.pointers self.now p
             result };
 
-    /// Returns a generation and link, or `None` if `i` is free.
+    /// Returns the generation of the link at an index and the link, or `None` without one.
     ///
     /// Port of `ChainArenaTrait::get_inx_link_no_gen`.
     fn get_inx_link_no_gen(&self, i: P::Inx) -> Option<(P::Gen, &LinkNoGen<P, T>)>
@@ -161,14 +161,16 @@ pub trait ChainArenaTrait<P: PtrKey, T: Drop>: ArenaTrait<P, T> {
             result }
         ensures agree { IsWellLinked (interlinks self.now) };
 
-    /// Returns an advancer from `p` to the end and from the link before to the start, or once
-    /// around; `None` if `p` is invalid.
+    /// Returns an advancer along the chain of `p`, or `None` if `p` is not valid.
+    ///
+    /// It goes from `p` to the end, then from the link before `p` back to the start; a cyclic chain
+    /// once around.
     ///
     /// Port of `ChainArenaTrait::advancer_chain`.
     fn advancer_chain(&self, p: P) -> Option<Self::ChainPtrAdvancer>
         ensures { StartsWalk Self.state interlinks P.key walker self.now p result };
 
-    /// Makes q follow p; `None` unless p is an end and q a start.
+    /// Links the end p to the start q; `None` if p is no end or q no start.
     ///
     /// Port of `ChainArenaTrait::connect`.
     fn connect(&mut self, p: P, q: P) -> Option<()>
@@ -255,7 +257,7 @@ pub trait ChainArenaTrait<P: PtrKey, T: Drop>: ArenaTrait<P, T> {
         ensures none { IfNone result (self.new ≡ self.old) }
         ensures implementation { OnSome result (splices self.old p first last self.new) };
 
-    /// Moves links to follow the first in order; `None` if a pointer is invalid or equals the next.
+    /// Moves links behind the first one, in order; `None` if a pointer is invalid or equals the next.
     ///
     /// # Examples
     ///
@@ -296,7 +298,7 @@ pub trait ChainArenaTrait<P: PtrKey, T: Drop>: ArenaTrait<P, T> {
         ensures implementation { OnSome (value_within result)
             (Self.removes self.old (P.key p).0 self.new) };
 
-    /// Is `remove_link_no_gen` by index.
+    /// Removes the link at an index, as `remove_link_no_gen` does.
     ///
     /// Port of `ChainArenaTrait::remove_inx_link_no_gen`.
     fn remove_inx_link_no_gen(&mut self, i: P::Inx) -> InvalidationResult<(P::Gen, LinkNoGen<P, T>)>
