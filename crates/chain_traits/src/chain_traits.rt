@@ -257,7 +257,7 @@ pub trait ChainArenaTrait<P: PtrKey, T: Drop>: ArenaTrait<P, T> {
         ensures none { IfNone result (self.new ≡ self.old) }
         ensures implementation { OnSome result (splices self.old p first last self.new) };
 
-    /// Moves links behind the first one, in order; `None` if a pointer is invalid or equals the next.
+    /// Moves links behind the first, in order; `None` if a pointer is invalid or equals the next.
     ///
     /// # Examples
     ///
