@@ -18,23 +18,11 @@ pub enum InsertKind<P, I> {
     PrevTo(P),
     PrevToInx(I),
     /// Between `next_to` and its next link, `prev_to`.
-    AtInterlink {
-        next_to: P,
-        prev_to: P,
-    },
-    AtInterlinkInx {
-        next_to: I,
-        prev_to: I,
-    },
+    AtInterlink { next_to: P, prev_to: P },
+    AtInterlinkInx { next_to: I, prev_to: I },
     /// Between an end and a start, perhaps of one chain.
-    Bridge {
-        end: P,
-        start: P,
-    },
-    BridgeInx {
-        end: I,
-        start: I,
-    },
+    Bridge { end: P, start: P },
+    BridgeInx { end: I, start: I },
 }
 
 impl<P: Copy, I: Copy> Clone for InsertKind<P, I> {
