@@ -37,8 +37,8 @@ module _ {A Gen T : Type 0} {view : A → ArenaView Gen (Entry T)} {entry : A �
   Makes old grows new = (entry new ≡ entry old) × (interlinks new ≡ interlinks old)
 
   -- What the contract of each call states where it succeeds is a change.
-  pub record CallsMakeChanges : Type 0 where
-    pub new_document : (greatest : ℕ) (old new : A) (d : P) → CreatesList state interlinks pointers.key greatest old (Ok d) new → Makes old (creates (pointers.key d)) new
+  pub record CallsMakeChanges {H : Type 0} (key : H → ℕ × Gen) : Type 0 where
+    pub new_list : (greatest : ℕ) (old new : A) (d : H) → CreatesList state interlinks key greatest old (Ok d) new → Makes old (creates (key d)) new
     pub push_front : (greatest : ℕ) (old new : A) (d p : P) (t : T) → PushesFront state interlinks pointers.key greatest old d t (Ok p) new → Makes old (inserts (pointers.key p)) new
     pub push_back : (greatest : ℕ) (old new : A) (d p : P) (t : T) → PushesBack state interlinks pointers.key greatest old d t (Ok p) new → Makes old (inserts (pointers.key p)) new
     pub insert_after : (greatest : ℕ) (old new : A) (q p : P) (t : T) → InsertsAfterItem state interlinks pointers.key greatest old q t (Ok p) new → Makes old (inserts (pointers.key p)) new
@@ -51,9 +51,9 @@ module _ {A Gen T : Type 0} {view : A → ArenaView Gen (Entry T)} {entry : A �
     pub move_range_to_back : (old new : A) (first last d : ℕ × Gen) → MovesRangeToBack state interlinks old first last d (Some tt) new → Makes old moves new
     pub move_range_after : (old new : A) (first last q : ℕ × Gen) → MovesRangeAfter state interlinks old first last q (Some tt) new → Makes old moves new
     pub join : (old new : A) (d e : ℕ × Gen) → JoinsLists state interlinks old d e (Some tt) new → Makes old moves new
-    pub split_at : (greatest : ℕ) (old new : A) (p d : P) → SplitsList state interlinks pointers.key greatest old p (Ok (Some d)) new → Makes old (creates (pointers.key d)) new
+    pub split_at : (greatest : ℕ) (old new : A) (p : P) (d : H) → SplitsList state interlinks pointers.key key greatest old p (Ok (Some d)) new → Makes old (creates (key d)) new
     pub remove : (old new : A) (p : P) (result : InvalidationResult T) → IsSome (value_within result) → RemovesListItem state interlinks pointers old p result new → Makes old (removes (pointers.key p)) new
-    pub remove_document : (old new : A) (d : ℕ × Gen) (result : InvalidationResult ℕ) → IsSome (value_within result) → RemovesList state interlinks pointers.wraps pointers.following old d result new → Makes old (removes_document d) new
+    pub remove_list : (old new : A) (d : ℕ × Gen) (result : InvalidationResult ℕ) → IsSome (value_within result) → RemovesList state interlinks pointers.wraps pointers.following old d result new → Makes old (removes_document d) new
     pub reserve : (greatest additional : ℕ) (old new : A) (done : Result Unit ReallocationError) → ReservesMore state interlinks greatest additional old done new → Makes old grows new
 
   -- Changes one after another. In each state, each paragraph is in exactly one document.

@@ -1,3 +1,2 @@
-pub mod Documents
 pub mod Histories
 pub mod Renumbering

@@ -1,12 +1,11 @@
 //! Ordered documents that share one arena of links.
 //!
-//! Each document has a handle, which stays valid while the document exists. Paragraphs and ranges of
-//! them are moved within their document or to another one in O(1), and pointers to them stay.
+//! Documents are linked lists of paragraphs that can be renumbered.
 #![tactic(auto)]
 
-mod documents;
+mod laws;
 mod renumbering;
 
-pub use documents::{Document, Documents, calls_keep_paragraphs, calls_make_changes};
-pub use linked_lists::Entry;
-pub use renumbering::moved_document;
+pub use laws::{calls_keep_paragraphs, calls_make_changes};
+pub use linked_lists::{Entry, LinkedLists as Documents, ListHandle as Document};
+pub use renumbering::{moved_document, renumber};

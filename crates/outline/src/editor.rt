@@ -70,7 +70,7 @@ impl<P: PtrKey, A: ChainArenaTrait<P, Entry<Paragraph>> + Drop> Editor<P, A> {
     /// - `AllocError`: an allocation failed.
     pub fn new(alloc: Global) -> Result<Self, AllocError> {
         let mut outline = Documents::new(alloc);
-        match outline.new_document() {
+        match outline.new_list() {
             Ok(deleted) => Ok(Editor {
                 outline,
                 deleted,
@@ -119,7 +119,7 @@ impl<P: PtrKey, A: ChainArenaTrait<P, Entry<Paragraph>> + Drop> Editor<P, A> {
 
     /// Returns the number of the document of a paragraph, or `None` if the paragraph is deleted.
     pub fn document_number(&self, p: P) -> Option<usize> {
-        let document = self.outline.document_of(p)?;
+        let document = self.outline.list_of(p)?;
         self.titles
             .iter()
             .position(|title| title.handle.head.is_same(document.head))
@@ -155,7 +155,7 @@ impl<P: PtrKey, A: ChainArenaTrait<P, Entry<Paragraph>> + Drop> Editor<P, A> {
     {
         self.refuse_known(name)?;
         self.changes.reserve(1)?;
-        let Ok(handle) = self.outline.new_document() else {
+        let Ok(handle) = self.outline.new_list() else {
             return Err(CommandError::Memory);
         };
         self.push_title(name, handle)?;
@@ -409,7 +409,7 @@ impl<P: PtrKey, A: ChainArenaTrait<P, Entry<Paragraph>> + Drop> Editor<P, A> {
 
     /// Returns why a range cannot be moved.
     fn range_refusal(&self, first: P, last: P) -> Refusal {
-        match self.outline.document_of(first) {
+        match self.outline.list_of(first) {
             Some(document) if self.outline.is_range_without(first, last, document.head) => {
                 Refusal::InsideTheRange
             }

@@ -5,7 +5,7 @@ ghost use Rattle.std.specs.Prelude.{◌≡◌, OnErr};
 use crate::editor::{Editor, Numbered, Paragraph, Title};
 use arena_ptr::PtrKey;
 use chain_renumbering::{RenumberChainArenaTrait, Renumbering};
-use documents::{Entry, moved_document};
+use documents::{Entry, moved_document, renumber};
 use std::alloc::AllocError;
 
 impl<P: PtrKey, A: RenumberChainArenaTrait<P, Entry<Paragraph>> + Drop> Editor<P, A> {
@@ -18,7 +18,7 @@ impl<P: PtrKey, A: RenumberChainArenaTrait<P, Entry<Paragraph>> + Drop> Editor<P
         ensures err { OnErr result (self.new ≡ self.old) }
         ensures changes { self.new.changes ≡ self.old.changes }
     {
-        let moved = self.outline.renumber(self.alloc)?;
+        let moved = renumber(&mut self.outline, self.alloc)?;
         if let Some(deleted) = moved_document(&moved, self.deleted) {
             self.deleted = deleted;
         }

@@ -90,7 +90,7 @@ impl<P: PtrKey, A: ChainArenaTrait<P, Entry<Paragraph>> + Drop> Editor<P, A> {
     {
         let title = self.titles.pop()?;
         let _ = self.names.remove(title.name.as_str());
-        let _ = self.outline.remove_document(title.handle);
+        let _ = self.outline.remove_list(title.handle);
         Some(())
     }
 

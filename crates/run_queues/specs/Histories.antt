@@ -61,8 +61,8 @@ module _ {A Gen T : Type 0} {view : A → ArenaView Gen (Entry T)} {entry : A �
   Makes old grows new = (entry new ≡ entry old) × (interlinks new ≡ interlinks old)
 
   -- What the contract of each call states where it succeeds is a change.
-  pub record CallsMakeChanges : Type 0 where
-    pub new_queue : (greatest : ℕ) (old new : A) (q : P) → CreatesList state interlinks pointers.key greatest old (Ok q) new → Makes old (creates (pointers.key q)) new
+  pub record CallsMakeChanges {H : Type 0} (key : H → ℕ × Gen) : Type 0 where
+    pub new_queue : (greatest : ℕ) (old new : A) (q : H) → CreatesList state interlinks key greatest old (Ok q) new → Makes old (creates (key q)) new
     pub spawn : (greatest : ℕ) (old new : A) (q p : P) (t : T) → PushesBack state interlinks pointers.key greatest old q t (Ok p) new → Makes old (spawns (pointers.key q) (pointers.key p)) new
     pub next : (old new : A) (q p : P) → TakesTurn state interlinks pointers.key old q (Some p) new → Makes old (gives_turn (pointers.key q) (pointers.key p)) new
     pub move_to : (old new : A) (p q : ℕ × Gen) → MovesToBack state interlinks old p q (Some tt) new → Makes old (moves p q) new

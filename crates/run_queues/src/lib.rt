@@ -6,7 +6,7 @@
 
 mod run_queues;
 
-pub use linked_lists::Entry;
+pub use linked_lists::{Entry, ListHandle as Queue};
 pub use run_queues::{
     RunQueues, calls_are_fair, calls_keep_tasks, calls_make_changes, calls_take_steps,
     turns_are_fair,

@@ -13,7 +13,7 @@ use arena_ptr::{
     AnyPointer, ChainInsertionError, GenKey, InvalidationResult, InxKey, PtrKey, ReallocationError,
 };
 use chain_traits::ChainArenaTrait;
-use linked_lists::{Entry, LinkedLists};
+use linked_lists::{Entry, LinkedLists, ListHandle as Queue};
 use std::alloc::{AllocError, Global};
 use std::marker::Model;
 
@@ -110,8 +110,8 @@ impl<P: PtrKey, T: Drop, A: ChainArenaTrait<P, Entry<T>> + Drop> RunQueues<P, T,
     }
 
     /// Returns whether `queue` is the handle of a queue.
-    pub fn is_queue(&self, queue: P) -> bool
-        ensures { IsTrue result ↔ IsHandle (A.entry self.now) (P.key queue) }
+    pub fn is_queue(&self, queue: Queue<P>) -> bool
+        ensures { IsTrue result ↔ IsHandle (A.entry self.now) (P.key queue.head) }
     {
         self.lists.is_list(queue)
     }
@@ -132,8 +132,8 @@ impl<P: PtrKey, T: Drop, A: ChainArenaTrait<P, Entry<T>> + Drop> RunQueues<P, T,
 
     /// Returns the first task of a queue, or `None` if the queue is empty or `queue` is not a
     /// handle. The task has no turn.
-    pub fn first(&self, queue: P) -> Option<P>
-        ensures { ReadsFirst A.state A.interlinks P.key self.now queue result }
+    pub fn first(&self, queue: Queue<P>) -> Option<P>
+        ensures { ReadsFirst A.state A.interlinks P.key self.now queue.head result }
     {
         self.lists.first(queue)
     }
@@ -141,8 +141,8 @@ impl<P: PtrKey, T: Drop, A: ChainArenaTrait<P, Entry<T>> + Drop> RunQueues<P, T,
     /// Returns the handle of the queue of a task, or `None` if `task` is not a task.
     ///
     /// Takes at most as many steps as the queue has tasks.
-    pub fn queue_of(&self, task: P) -> Option<P>
-        ensures { ReadsHandle A.state A.interlinks P.key self.now task result }
+    pub fn queue_of(&self, task: P) -> Option<Queue<P>>
+        ensures { ReadsHandle A.state A.interlinks P.key (λ q. P.key q.head) self.now task result }
     {
         self.lists.list_of(task)
     }
@@ -153,10 +153,10 @@ impl<P: PtrKey, T: Drop, A: ChainArenaTrait<P, Entry<T>> + Drop> RunQueues<P, T,
     /// # Errors
     ///
     /// - `AllocError`: an allocation failed.
-    pub fn tasks(&self, alloc: Global, queue: P) -> Result<Option<Vec<P>>, AllocError>
-        ensures some { IfOk result (λ r. IsSome r ↔ IsHandle (A.entry self.now) (P.key queue)) }
+    pub fn tasks(&self, alloc: Global, queue: Queue<P>) -> Result<Option<Vec<P>>, AllocError>
+        ensures some { IfOk result (λ r. IsSome r ↔ IsHandle (A.entry self.now) (P.key queue.head)) }
         ensures tasks { IfOk result (λ r. IfSome r (λ pointers. ListsItems A.state A.interlinks
-            P.key self.now queue pointers.items)) }
+            P.key self.now queue.head pointers.items)) }
     {
         self.lists.walk(alloc, queue)
     }
@@ -169,11 +169,11 @@ impl<P: PtrKey, T: Drop, A: ChainArenaTrait<P, Entry<T>> + Drop> RunQueues<P, T,
     /// - `AllocError`: growth would exceed the greatest index, or an allocation failed.
     ///
     /// On error, nothing changes.
-    pub fn new_queue(&mut self) -> Result<P, ReallocationError>
-        ensures outcome { CreatesList A.state A.interlinks P.key P.Inx.greatest self.old result
-            self.new }
-        ensures implementation { IfOk result (A.inserts self.old kinds.SingleLinkCyclic Entry.Head
-            self.new) }
+    pub fn new_queue(&mut self) -> Result<Queue<P>, ReallocationError>
+        ensures outcome { CreatesList A.state A.interlinks (λ q. P.key q.head) P.Inx.greatest
+            self.old result self.new }
+        ensures implementation { IfOk result (λ q. A.inserts self.old kinds.SingleLinkCyclic
+            Entry.Head self.new q.head) }
     {
         self.lists.new_list()
     }
@@ -187,10 +187,10 @@ impl<P: PtrKey, T: Drop, A: ChainArenaTrait<P, Entry<T>> + Drop> RunQueues<P, T,
     /// - `AllocError`: growth would exceed the greatest index, or an allocation failed.
     ///
     /// On error, nothing changes and the task is dropped.
-    pub fn spawn(&mut self, queue: P, task: T) -> Result<P, ChainInsertionError>
-        ensures outcome { PushesBack A.state A.interlinks P.key P.Inx.greatest self.old queue task
-            result self.new }
-        ensures implementation { IfOk result (A.inserts self.old (kinds.PrevTo queue)
+    pub fn spawn(&mut self, queue: Queue<P>, task: T) -> Result<P, ChainInsertionError>
+        ensures outcome { PushesBack A.state A.interlinks P.key P.Inx.greatest self.old queue.head
+            task result self.new }
+        ensures implementation { IfOk result (A.inserts self.old (kinds.PrevTo queue.head)
             (Entry.Item task) self.new) }
     {
         self.lists.push_back(queue, task)
@@ -223,9 +223,9 @@ impl<P: PtrKey, T: Drop, A: ChainArenaTrait<P, Entry<T>> + Drop> RunQueues<P, T,
     /// All other queues and the capacity stay the same. Returns `GenerationOverflow` if the
     /// generation counter wrapped: pointers that were removed may then become valid again. Returns
     /// `InvalidPtr` and changes nothing if `queue` is not a handle.
-    pub fn remove_queue(&mut self, queue: P) -> InvalidationResult<usize>
+    pub fn remove_queue(&mut self, queue: Queue<P>) -> InvalidationResult<usize>
         ensures { RemovesList A.state A.interlinks P.Gen.wraps P.Gen.following self.old
-            (P.key queue) result self.new }
+            (P.key queue.head) result self.new }
     {
         self.lists.remove_list(queue)
     }
@@ -235,8 +235,8 @@ impl<P: PtrKey, T: Drop, A: ChainArenaTrait<P, Entry<T>> + Drop> RunQueues<P, T,
     ///
     /// Returns `None` and changes nothing if the queue is empty or `queue` is not a handle. Turns
     /// are fair (`turns_are_fair`).
-    pub fn next(&mut self, queue: P) -> Option<P>
-        ensures { TakesTurn A.state A.interlinks P.key self.old queue result self.new }
+    pub fn next(&mut self, queue: Queue<P>) -> Option<P>
+        ensures { TakesTurn A.state A.interlinks P.key self.old queue.head result self.new }
     {
         self.wake_one(queue, queue)
     }
@@ -244,8 +244,8 @@ impl<P: PtrKey, T: Drop, A: ChainArenaTrait<P, Entry<T>> + Drop> RunQueues<P, T,
     /// Moves a task to the end of a queue, which may be its own.
     ///
     /// Returns `None` and changes nothing if `task` is not a task or `queue` is not a handle.
-    pub fn move_to(&mut self, task: P, queue: P) -> Option<()>
-        ensures { MovesToBack A.state A.interlinks self.old (P.key task) (P.key queue) result
+    pub fn move_to(&mut self, task: P, queue: Queue<P>) -> Option<()>
+        ensures { MovesToBack A.state A.interlinks self.old (P.key task) (P.key queue.head) result
             self.new }
     {
         self.lists.move_to_back(task, queue)
@@ -255,8 +255,8 @@ impl<P: PtrKey, T: Drop, A: ChainArenaTrait<P, Entry<T>> + Drop> RunQueues<P, T,
     ///
     /// Returns `None` and changes nothing if `list` is empty, or if `list` or `queue` is not a
     /// handle.
-    pub fn wake_one(&mut self, list: P, queue: P) -> Option<P>
-        ensures { WakesOne A.state A.interlinks P.key self.old list queue result self.new }
+    pub fn wake_one(&mut self, list: Queue<P>, queue: Queue<P>) -> Option<P>
+        ensures { WakesOne A.state A.interlinks P.key self.old list.head queue.head result self.new }
     {
         self.lists.all_in_lists();
         match self.lists.first(list) {
@@ -272,8 +272,8 @@ impl<P: PtrKey, T: Drop, A: ChainArenaTrait<P, Entry<T>> + Drop> RunQueues<P, T,
     ///
     /// Returns `None` and changes nothing if `list` or `queue` is not a handle, or if both are the
     /// same queue.
-    pub fn wake_all(&mut self, list: P, queue: P) -> Option<()>
-        ensures { JoinsLists A.state A.interlinks self.old (P.key queue) (P.key list) result
+    pub fn wake_all(&mut self, list: Queue<P>, queue: Queue<P>) -> Option<()>
+        ensures { JoinsLists A.state A.interlinks self.old (P.key queue.head) (P.key list.head) result
             self.new }
     {
         self.lists.join(queue, list)
@@ -294,7 +294,8 @@ pub fn turns_are_fair<P: PtrKey>()
 ///
 /// This follows from the contracts of the calls. The function has no effect.
 pub fn calls_make_changes<P: PtrKey, T: Drop, A: ChainArenaTrait<P, Entry<T>>>()
-    ensures { CallsMakeChanges A.state A.interlinks ⟦<P as AnyPointer>⟧.pointers }
+    ensures { CallsMakeChanges A.state A.interlinks ⟦<P as AnyPointer>⟧.pointers
+        (λ (q : Queue P P.Inx P.Gen P.Inx.Word). P.key q.head) }
 {}
 
 /// States that each call takes steps in each queue: only `next` gives turns, and only `move_to`,

@@ -4,7 +4,7 @@ use crate::refusal::Refusal;
 use crate::turns::next_of_first;
 use arena_ptr::PtrKey;
 use chain_traits::ChainArenaTrait;
-use run_queues::{Entry, RunQueues};
+use run_queues::{Entry, Queue, RunQueues};
 use std::alloc::{AllocError, AllocFailed, Global};
 use std::collections::HashMap;
 
@@ -38,7 +38,7 @@ const PRIORITIES: usize = 10;
 pub struct Task<P: PtrKey> {
     name: String,
     pointer: P,
-    queue: P,
+    queue: Queue<P>,
     is_blocked: bool,
     turns: u64,
 }
@@ -64,8 +64,8 @@ pub struct Place {
 #[derive(Drop)]
 pub struct Scheduler<P: PtrKey, A: ChainArenaTrait<P, Entry<Place>> + Drop> {
     queues: RunQueues<P, Place, A>,
-    ready: Vec<P>,
-    waiting: HashMap<String, P>,
+    ready: Vec<Queue<P>>,
+    waiting: HashMap<String, Queue<P>>,
     tasks: Vec<Task<P>>,
     names: HashMap<String, usize>,
     alloc: Global,
@@ -147,7 +147,7 @@ impl<P: PtrKey, A: ChainArenaTrait<P, Entry<Place>> + Drop> Scheduler<P, A> {
         Ok(())
     }
 
-    fn wait_list(&mut self, event: &str) -> Result<P, CommandError> {
+    fn wait_list(&mut self, event: &str) -> Result<Queue<P>, CommandError> {
         if let Some(list) = self.waiting.get(event).copied() {
             return Ok(list);
         }
@@ -176,7 +176,7 @@ impl<P: PtrKey, A: ChainArenaTrait<P, Entry<Place>> + Drop> Scheduler<P, A> {
         Ok(())
     }
 
-    fn wake_first(&mut self, list: P) -> Option<P> {
+    fn wake_first(&mut self, list: Queue<P>) -> Option<P> {
         let pointer = self.queues.first(list)?;
         let index = self.queues.get(pointer)?.index;
         let task = self.tasks.get_mut(index)?;

@@ -26,14 +26,14 @@ returns-in-Some g c = record {
   queue = c.queue-item.result;
   here = slice_get_read c.args.ready.now _ c.loop-queue.queue-index c.queue-item.result refl c.loop-queue-test.true c.queue-item.is;
   below = c.loop-queue.invariant.below;
-  turn = subst (λ a. IsTurnTaken g.A.ArenaTrait.state g.A.ChainArenaTrait.interlinks a c.next.new.self (g.P.PtrKey.key c.queue-item.result) (g.P.PtrKey.key c.in-Some.task)) c.loop-queue.invariant.same c.in-Some.ensures;
+  turn = subst (λ a. IsTurnTaken g.A.ArenaTrait.state g.A.ChainArenaTrait.interlinks a c.next.new.self (g.P.PtrKey.key c.queue-item.result.head) (g.P.PtrKey.key c.in-Some.task)) c.loop-queue.invariant.same c.in-Some.ensures;
 }
 
 pub loop-queue-preserved : goal.loop-queue-preserved
 loop-queue-preserved g c =
-    let none = subst (λ a. HasNoTask g.A.ArenaTrait.state g.A.ChainArenaTrait.interlinks a (g.P.PtrKey.key c.queue-item.result)) c.loop-queue.invariant.same c.in_default.ensures.0 in
+    let none = subst (λ a. HasNoTask g.A.ArenaTrait.state g.A.ChainArenaTrait.interlinks a (g.P.PtrKey.key c.queue-item.result.head)) c.loop-queue.invariant.same c.in_default.ensures.0 in
     record {
-      below = below_more g.A.ArenaTrait.state g.A.ChainArenaTrait.interlinks g.P.PtrKey.key c.args.queues.now c.args.ready.now c.loop-queue.queue-index c.queue-item.result c.loop-queue.invariant.below
+      below = below_more g.A.ArenaTrait.state g.A.ChainArenaTrait.interlinks (λ q. g.P.PtrKey.key q.head) c.args.queues.now c.args.ready.now c.loop-queue.queue-index c.queue-item.result c.loop-queue.invariant.below
           (slice_get_read c.args.ready.now _ c.loop-queue.queue-index c.queue-item.result refl c.loop-queue-test.true c.queue-item.is) none;
       same = c.in_default.ensures.1 ∙ c.loop-queue.invariant.same;
     }

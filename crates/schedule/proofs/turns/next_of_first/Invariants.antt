@@ -5,6 +5,6 @@ use Rattle.schedule.proofs.turns.next_of_first.Given as goal
 
 abbrev pub invariant-loop-queue : goal.invariant-loop-queue
 invariant-loop-queue g l = record {
-  below : AreEmptyBelow g.A.ArenaTrait.state g.A.ChainArenaTrait.interlinks g.P.PtrKey.key l.fn.queues l.ready l.queue-index;
+  below : AreEmptyBelow g.A.ArenaTrait.state g.A.ChainArenaTrait.interlinks (λ q. g.P.PtrKey.key q.head) l.fn.queues l.ready l.queue-index;
   same : l.queues ≡ l.fn.queues;
 }

@@ -11,8 +11,8 @@ returns-after-move_to_back g c =
     let decide = same_or_not g.P.Gen.GenKey.same g.met.P.Gen.GenKey.same_is_equal in
     let old = c.self.inside.lists in
     rw (← c.self.view_is) (elim c.match-move_to_back.branch [
-      | in-Some-move_to_back w ↦ rw w.result-is (wakes_moved state interlinks g.P.PtrKey.key decide old c.all_in_lists.ensures c.args.list c.args.queue c.in-Some.task c.move_to_back.new.self c.in-Some.ensures w.in-Some-move_to_back.ensures)
-      | in-None-move_to_back w ↦ rw w.result-is (wakes_refused state interlinks g.P.PtrKey.key decide old c.all_in_lists.ensures c.args.list c.args.queue c.in-Some.task c.move_to_back.new.self c.in-Some.ensures w.in-None-move_to_back.ensures)
+      | in-Some-move_to_back w ↦ rw w.result-is (wakes_moved state interlinks g.P.PtrKey.key decide old c.all_in_lists.ensures c.args.list.head c.args.queue.head c.in-Some.task c.move_to_back.new.self c.in-Some.ensures w.in-Some-move_to_back.ensures)
+      | in-None-move_to_back w ↦ rw w.result-is (wakes_refused state interlinks g.P.PtrKey.key decide old c.all_in_lists.ensures c.args.list.head c.args.queue.head c.in-Some.task c.move_to_back.new.self c.in-Some.ensures w.in-None-move_to_back.ensures)
     ])
 
 pub returns-in-None : goal.returns-in-None
@@ -21,5 +21,5 @@ returns-in-None g c =
     let interlinks = g.A.ChainArenaTrait.interlinks in
     let decide = same_or_not g.P.Gen.GenKey.same g.met.P.Gen.GenKey.same_is_equal in
     let old = c.self.inside.lists in
-    let none = none_first state interlinks g.P.PtrKey.key decide old c.all_in_lists.ensures c.args.list c.in-None.ensures in
+    let none = none_first state interlinks g.P.PtrKey.key decide old c.all_in_lists.ensures c.args.list.head c.in-None.ensures in
     rw (← c.self.view_is) ((λ head. none), refl)

@@ -1,4 +1,0 @@
-use Rattle.documents.proofs.documents.Documents.insert_after.Goals as goal
-
-pub returns-clause-outcome : goal.returns-clause-outcome
-returns-clause-outcome g c = rw (← c.self.view_is) c.insert_after.ensures.outcome

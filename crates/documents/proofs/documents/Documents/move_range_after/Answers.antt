@@ -1,7 +1,0 @@
-use Rattle.documents.proofs.documents.Documents.move_range_after.Goals as goal
-
-pub move_range_after-requires : goal.move_range_after-requires
-move_range_after-requires g c = rw (← c.self.view_is) at c.requires
-
-pub returns : goal.returns
-returns g c = rw (← c.self.view_is) c.move_range_after.ensures

@@ -1,4 +1,0 @@
-use Rattle.documents.proofs.documents.Documents.push_front.Goals as goal
-
-pub returns-clause-outcome : goal.returns-clause-outcome
-returns-clause-outcome g c = rw (← c.self.view_is) c.push_front.ensures.outcome
