@@ -3,16 +3,16 @@ ghost use Rattle.linked_lists.specs.LinkedLists.{PushesBack, RemovesListItem};
 
 use arena_ptr::{AnyPointer, ChainInsertionError, InvalidationResult, InxKey, PtrKey};
 use chain_traits::ChainArenaTrait;
-use run_queues::{Entry, RunQueues};
+use run_queues::{Entry, Queue, RunQueues};
 
 /// Forwards to `RunQueues::spawn`, under its contract.
 pub fn spawn<P: PtrKey, T: Drop, A: ChainArenaTrait<P, Entry<T>> + Drop>(
     queues: &mut RunQueues<P, T, A>,
-    queue: P,
+    queue: Queue<P>,
     task: T,
 ) -> Result<P, ChainInsertionError>
-    ensures { PushesBack A.state A.interlinks P.key P.Inx.greatest queues.old queue task result
-        queues.new }
+    ensures { PushesBack A.state A.interlinks P.key P.Inx.greatest queues.old queue.head task
+        result queues.new }
 {
     queues.spawn(queue, task)
 }
