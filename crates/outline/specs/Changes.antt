@@ -1,9 +1,8 @@
--- What a command changes.
 use Rattle.std.specs.Prelude.{◌≡◌, Result, Ok, Err, ⊤}
 use Rattle.outline.specs.declared.command_error.CommandError.{CommandError}
 use Rattle.outline.specs.declared.command_error.CommandError.TheVariants.{Refused, Memory}
 
--- A command that is refused changes nothing.
+-- A refused command changes nothing.
 abbrev pub IsUnchangedIfRefused : {X E : Type 0} → Result X CommandError → E → E → Type 0
 IsUnchangedIfRefused (Ok x) old new = ⊤
 IsUnchangedIfRefused (Err (Refused why)) old new = new ≡ old

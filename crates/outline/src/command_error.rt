@@ -1,4 +1,4 @@
-//! The reasons why a command has no effect.
+//! Errors of commands.
 
 ghost use Rattle.std.specs.Prelude.{◌≡◌};
 ghost use Rattle.outline.specs.declared.command_error.CommandError.TheVariants.{Refused, Memory};
@@ -6,12 +6,11 @@ ghost use Rattle.outline.specs.declared.command_error.CommandError.TheVariants.{
 use crate::refusal::Refusal;
 use std::alloc::{AllocError, AllocFailed};
 
-/// The reason why a command has no effect.
 #[derive(Clone, Copy, Debug, PartialEq, Eq)]
 pub enum CommandError {
-    /// The command is refused, and nothing changes.
+    /// Nothing changes.
     Refused(Refusal),
-    /// An allocation failed.
+    /// An allocation failed, and the command may be half done.
     Memory,
 }
 

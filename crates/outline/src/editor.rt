@@ -1,4 +1,4 @@
-//! An editor of documents, whose paragraphs are in one arena of links.
+//! An editor of documents in one arena of links.
 
 ghost use Rattle.std.specs.Prelude.{◌≡◌, ◌+◌, IfNone, IfOk, OnErr, OnOk, vec_len};
 ghost use Rattle.outline.specs.Changes.{IsUnchangedIfRefused};
@@ -13,43 +13,35 @@ use documents::{Document, Documents, Entry};
 use std::alloc::{AllocError, Global};
 use std::collections::HashMap;
 
-/// A paragraph of a document.
 #[derive(Drop)]
 pub struct Paragraph {
     pub number: usize,
     pub text: String,
 }
 
-/// A document and its name.
 #[derive(Drop)]
 pub struct Title<P: PtrKey> {
     pub name: String,
     pub handle: Document<P>,
 }
 
-/// A paragraph that was inserted.
 #[derive(Clone, Copy)]
 pub struct Numbered<P: PtrKey> {
     pub pointer: P,
     pub is_deleted: bool,
 }
 
-/// A destination of paragraphs.
 #[derive(Clone, Copy)]
 pub enum Target<P: PtrKey> {
-    /// Directly after a paragraph.
     After(P),
-    /// At the start of a document.
     First(Document<P>),
-    /// At the end of a document.
     Last(Document<P>),
 }
 
-/// An editor over any arena of links.
+/// An editor over any arena of links. A refused command changes nothing.
 ///
-/// Paragraphs and documents have numbers in the order of creation, paragraphs from 1. All pointers
-/// are in `paragraphs`, in `titles` and in `deleted`, which is the hidden document of deleted
-/// paragraphs. Bookmarks and changes have numbers.
+/// Documents and paragraphs are numbered in order of creation, paragraphs from 1. Pointers are only
+/// in `paragraphs`, `titles` and `deleted`, the document of deleted paragraphs.
 #[derive(Drop)]
 pub struct Editor<P: PtrKey, A: ChainArenaTrait<P, Entry<Paragraph>> + Drop> {
     pub outline: Documents<P, Paragraph, A>,
@@ -63,11 +55,6 @@ pub struct Editor<P: PtrKey, A: ChainArenaTrait<P, Entry<Paragraph>> + Drop> {
 }
 
 impl<P: PtrKey, A: ChainArenaTrait<P, Entry<Paragraph>> + Drop> Editor<P, A> {
-    /// Creates an editor without documents.
-    ///
-    /// # Errors
-    ///
-    /// - `AllocError`: an allocation failed.
     pub fn new(alloc: Global) -> Result<Self, AllocError> {
         let mut outline = Documents::new(alloc);
         match outline.new_list() {
@@ -85,11 +72,6 @@ impl<P: PtrKey, A: ChainArenaTrait<P, Entry<Paragraph>> + Drop> Editor<P, A> {
         }
     }
 
-    /// Returns the handle of a document.
-    ///
-    /// # Errors
-    ///
-    /// - `UnknownDocument`: no document has the name.
     pub fn document(&self, name: &str) -> Result<Document<P>, Refusal> {
         match self.names.get(name) {
             Some(number) => match self.titles.get(*number) {
@@ -100,12 +82,6 @@ impl<P: PtrKey, A: ChainArenaTrait<P, Entry<Paragraph>> + Drop> Editor<P, A> {
         }
     }
 
-    /// Returns the pointer of a paragraph.
-    ///
-    /// # Errors
-    ///
-    /// - `UnknownParagraph`: no paragraph has the number.
-    /// - `DeletedParagraph`: the paragraph was deleted.
     pub fn paragraph(&self, number: usize) -> Result<P, Refusal> {
         let Some(index) = number.checked_sub(1) else {
             return Err(Refusal::UnknownParagraph);
@@ -117,7 +93,7 @@ impl<P: PtrKey, A: ChainArenaTrait<P, Entry<Paragraph>> + Drop> Editor<P, A> {
         }
     }
 
-    /// Returns the number of the document of a paragraph, or `None` if the paragraph is deleted.
+    /// Returns the document of a paragraph, or `None` if it is deleted.
     pub fn document_number(&self, p: P) -> Option<usize> {
         let document = self.outline.list_of(p)?;
         self.titles
@@ -125,11 +101,6 @@ impl<P: PtrKey, A: ChainArenaTrait<P, Entry<Paragraph>> + Drop> Editor<P, A> {
             .position(|title| title.handle.head.is_same(document.head))
     }
 
-    /// Returns where a paragraph is.
-    ///
-    /// # Errors
-    ///
-    /// - `UnknownParagraph`: the paragraph is in no document that has a name.
     fn origin(&self, p: P) -> Result<Origin, Refusal> {
         match self.outline.prev(p) {
             Some(q) => match self.outline.get(q) {
@@ -143,12 +114,6 @@ impl<P: PtrKey, A: ChainArenaTrait<P, Entry<Paragraph>> + Drop> Editor<P, A> {
         }
     }
 
-    /// Creates an empty document.
-    ///
-    /// # Errors
-    ///
-    /// - `NameInUse`: a document has the name.
-    /// - `Memory`: an allocation failed.
     pub fn create(&mut self, name: &str) -> Result<(), CommandError>
         ensures refused { IsUnchangedIfRefused result self.old self.new }
         ensures recorded { OnOk result (vec_len self.new.changes ≡ vec_len self.old.changes + 1) }
@@ -163,11 +128,6 @@ impl<P: PtrKey, A: ChainArenaTrait<P, Entry<Paragraph>> + Drop> Editor<P, A> {
         Ok(())
     }
 
-    /// Tests a name for a new document.
-    ///
-    /// # Errors
-    ///
-    /// - `NameInUse`: a document has the name.
     fn refuse_known(&self, name: &str) -> Result<(), Refusal> {
         if self.names.contains_key(name) {
             return Err(Refusal::NameInUse);
@@ -175,7 +135,6 @@ impl<P: PtrKey, A: ChainArenaTrait<P, Entry<Paragraph>> + Drop> Editor<P, A> {
         Ok(())
     }
 
-    /// Gives a name to a new document.
     fn push_title(&mut self, name: &str, handle: Document<P>) -> Result<(), AllocError>
         ensures { self.new.changes ≡ self.old.changes }
     {
@@ -187,11 +146,6 @@ impl<P: PtrKey, A: ChainArenaTrait<P, Entry<Paragraph>> + Drop> Editor<P, A> {
     }
 
     /// Inserts a paragraph at the end of a document and returns its number.
-    ///
-    /// # Errors
-    ///
-    /// - `UnknownDocument`: no document has the name.
-    /// - `Memory`: an allocation failed.
     pub fn add(&mut self, name: &str, text: &str) -> Result<usize, CommandError>
         ensures refused { IsUnchangedIfRefused result self.old self.new }
         ensures recorded { OnOk result (vec_len self.new.changes ≡ vec_len self.old.changes + 1) }
@@ -205,12 +159,6 @@ impl<P: PtrKey, A: ChainArenaTrait<P, Entry<Paragraph>> + Drop> Editor<P, A> {
         }
     }
 
-    /// Inserts a paragraph directly after another one and returns its number.
-    ///
-    /// # Errors
-    ///
-    /// - `UnknownParagraph`, `DeletedParagraph`: the other one is not in a document.
-    /// - `Memory`: an allocation failed.
     pub fn insert_after(&mut self, number: usize, text: &str) -> Result<usize, CommandError>
         ensures refused { IsUnchangedIfRefused result self.old self.new }
         ensures recorded { OnOk result (vec_len self.new.changes ≡ vec_len self.old.changes + 1) }
@@ -224,12 +172,6 @@ impl<P: PtrKey, A: ChainArenaTrait<P, Entry<Paragraph>> + Drop> Editor<P, A> {
         }
     }
 
-    /// Inserts a paragraph directly before another one and returns its number.
-    ///
-    /// # Errors
-    ///
-    /// - `UnknownParagraph`, `DeletedParagraph`: the other one is not in a document.
-    /// - `Memory`: an allocation failed.
     pub fn insert_before(&mut self, number: usize, text: &str) -> Result<usize, CommandError>
         ensures refused { IsUnchangedIfRefused result self.old self.new }
         ensures recorded { OnOk result (vec_len self.new.changes ≡ vec_len self.old.changes + 1) }
@@ -243,7 +185,6 @@ impl<P: PtrKey, A: ChainArenaTrait<P, Entry<Paragraph>> + Drop> Editor<P, A> {
         }
     }
 
-    /// Returns a paragraph with the next number.
     fn new_paragraph(&self, text: &str) -> Result<Paragraph, AllocError> {
         Ok(Paragraph {
             number: self.paragraphs.len().saturating_add(1),
@@ -251,7 +192,6 @@ impl<P: PtrKey, A: ChainArenaTrait<P, Entry<Paragraph>> + Drop> Editor<P, A> {
         })
     }
 
-    /// Gives the next number to a paragraph that was inserted, and returns the number.
     fn push_paragraph(&mut self, pointer: P) -> Result<usize, AllocError>
         ensures recorded { OnOk result (vec_len self.new.changes ≡ vec_len self.old.changes + 1) }
         ensures number { IfOk result (λ n. n ≡ vec_len self.old.paragraphs + 1) }
@@ -264,12 +204,6 @@ impl<P: PtrKey, A: ChainArenaTrait<P, Entry<Paragraph>> + Drop> Editor<P, A> {
         Ok(self.paragraphs.len())
     }
 
-    /// Gives a paragraph another text.
-    ///
-    /// # Errors
-    ///
-    /// - `UnknownParagraph`, `DeletedParagraph`: the paragraph is not in a document.
-    /// - `Memory`: an allocation failed.
     pub fn edit(&mut self, number: usize, text: &str) -> Result<(), CommandError>
         ensures refused { IsUnchangedIfRefused result self.old self.new }
         ensures recorded { OnOk result (vec_len self.new.changes ≡ vec_len self.old.changes + 1) }
@@ -285,12 +219,6 @@ impl<P: PtrKey, A: ChainArenaTrait<P, Entry<Paragraph>> + Drop> Editor<P, A> {
         }
     }
 
-    /// Deletes a paragraph.
-    ///
-    /// # Errors
-    ///
-    /// - `UnknownParagraph`, `DeletedParagraph`: the paragraph is not in a document.
-    /// - `Memory`: an allocation failed.
     pub fn delete(&mut self, number: usize) -> Result<(), CommandError>
         ensures refused { IsUnchangedIfRefused result self.old self.new }
         ensures recorded { OnOk result (vec_len self.new.changes ≡ vec_len self.old.changes + 1) }
@@ -305,7 +233,6 @@ impl<P: PtrKey, A: ChainArenaTrait<P, Entry<Paragraph>> + Drop> Editor<P, A> {
         Ok(())
     }
 
-    /// Records whether a paragraph is deleted.
     pub fn set_deleted(&mut self, number: usize, is_deleted: bool)
         ensures { self.new.changes ≡ self.old.changes }
     {
@@ -314,15 +241,6 @@ impl<P: PtrKey, A: ChainArenaTrait<P, Entry<Paragraph>> + Drop> Editor<P, A> {
         }
     }
 
-    /// Moves the paragraphs from `first` to `last`.
-    ///
-    /// # Errors
-    ///
-    /// - `UnknownParagraph`, `DeletedParagraph`: a paragraph is not in a document.
-    /// - `UnknownDocument`: no document has the name.
-    /// - `NotARange`: `last` is not `first` or after it in the same document.
-    /// - `InsideTheRange`: the place is directly after a paragraph that is to be moved.
-    /// - `Memory`: an allocation failed.
     pub fn move_range(
         &mut self,
         first: usize,
@@ -341,7 +259,6 @@ impl<P: PtrKey, A: ChainArenaTrait<P, Entry<Paragraph>> + Drop> Editor<P, A> {
         Ok(())
     }
 
-    /// Returns the destination that a line names.
     fn target(&self, place: Place<'_>) -> Result<Target<P>, Refusal> {
         match place {
             Place::After(number) => Ok(Target::After(self.paragraph(number)?)),
@@ -350,12 +267,6 @@ impl<P: PtrKey, A: ChainArenaTrait<P, Entry<Paragraph>> + Drop> Editor<P, A> {
         }
     }
 
-    /// Moves a range of paragraphs to a destination.
-    ///
-    /// # Errors
-    ///
-    /// - `NotARange`: `last` is not `first` or after it in the same document.
-    /// - `InsideTheRange`: the destination is after a paragraph that is to be moved.
     pub fn put_range(&mut self, first: P, last: P, target: Target<P>) -> Result<(), Refusal>
         ensures err { OnErr result (self.new ≡ self.old) }
         ensures changes { self.new.changes ≡ self.old.changes }
@@ -371,7 +282,6 @@ impl<P: PtrKey, A: ChainArenaTrait<P, Entry<Paragraph>> + Drop> Editor<P, A> {
         }
     }
 
-    /// Moves a range directly behind a paragraph, if that is not in the range.
     fn put_range_after(&mut self, first: P, last: P, q: P) -> Option<()>
         ensures none { IfNone result (self.new ≡ self.old) }
         ensures changes { self.new.changes ≡ self.old.changes }
@@ -383,7 +293,6 @@ impl<P: PtrKey, A: ChainArenaTrait<P, Entry<Paragraph>> + Drop> Editor<P, A> {
         }
     }
 
-    /// Moves a range to the start of a document.
     fn put_range_first(&mut self, first: P, last: P, document: Document<P>) -> Option<()>
         ensures none { IfNone result (self.new ≡ self.old) }
         ensures changes { self.new.changes ≡ self.old.changes }
@@ -395,7 +304,6 @@ impl<P: PtrKey, A: ChainArenaTrait<P, Entry<Paragraph>> + Drop> Editor<P, A> {
         }
     }
 
-    /// Moves a range to the end of a document.
     fn put_range_last(&mut self, first: P, last: P, document: Document<P>) -> Option<()>
         ensures none { IfNone result (self.new ≡ self.old) }
         ensures changes { self.new.changes ≡ self.old.changes }
@@ -407,7 +315,6 @@ impl<P: PtrKey, A: ChainArenaTrait<P, Entry<Paragraph>> + Drop> Editor<P, A> {
         }
     }
 
-    /// Returns why a range cannot be moved.
     fn range_refusal(&self, first: P, last: P) -> Refusal {
         match self.outline.list_of(first) {
             Some(document) if self.outline.is_range_without(first, last, document.head) => {
@@ -418,12 +325,6 @@ impl<P: PtrKey, A: ChainArenaTrait<P, Entry<Paragraph>> + Drop> Editor<P, A> {
     }
 
     /// Moves a paragraph and those after it to a new document.
-    ///
-    /// # Errors
-    ///
-    /// - `UnknownParagraph`, `DeletedParagraph`: the paragraph is not in a document.
-    /// - `NameInUse`: a document has the name.
-    /// - `Memory`: an allocation failed.
     pub fn split(&mut self, number: usize, name: &str) -> Result<(), CommandError>
         ensures refused { IsUnchangedIfRefused result self.old self.new }
         ensures recorded { OnOk result (vec_len self.new.changes ≡ vec_len self.old.changes + 1) }
@@ -441,13 +342,7 @@ impl<P: PtrKey, A: ChainArenaTrait<P, Entry<Paragraph>> + Drop> Editor<P, A> {
         Ok(())
     }
 
-    /// Moves all paragraphs of a document to the end of another one. It is empty then.
-    ///
-    /// # Errors
-    ///
-    /// - `UnknownDocument`: no document has one of the names.
-    /// - `SameDocument`: the documents are the same.
-    /// - `Memory`: an allocation failed.
+    /// Moves all paragraphs of `other` to the end of `name`.
     pub fn join(&mut self, name: &str, other: &str) -> Result<(), CommandError>
         ensures refused { IsUnchangedIfRefused result self.old self.new }
         ensures recorded { OnOk result (vec_len self.new.changes ≡ vec_len self.old.changes + 1) }
@@ -462,7 +357,6 @@ impl<P: PtrKey, A: ChainArenaTrait<P, Entry<Paragraph>> + Drop> Editor<P, A> {
         Ok(())
     }
 
-    /// Returns the change that moves all paragraphs of a document to elsewhere.
     fn move_of_all(&self, name: &str, document: Document<P>) -> Change {
         let (Some(p), Some(q)) = (self.outline.first(document), self.outline.last(document)) else {
             return Change::Nothing;
@@ -475,7 +369,6 @@ impl<P: PtrKey, A: ChainArenaTrait<P, Entry<Paragraph>> + Drop> Editor<P, A> {
         }
     }
 
-    /// Returns the number of a paragraph.
     pub fn number_of(&self, p: P) -> Option<usize> {
         match self.outline.get(p) {
             Some(paragraph) => Some(paragraph.number),
@@ -483,12 +376,6 @@ impl<P: PtrKey, A: ChainArenaTrait<P, Entry<Paragraph>> + Drop> Editor<P, A> {
         }
     }
 
-    /// Sets a bookmark at a paragraph. A bookmark with the name is moved there.
-    ///
-    /// # Errors
-    ///
-    /// - `UnknownParagraph`, `DeletedParagraph`: the paragraph is not in a document.
-    /// - `Memory`: an allocation failed.
     pub fn mark(&mut self, name: &str, number: usize) -> Result<(), CommandError>
         ensures refused { IsUnchangedIfRefused result self.old self.new }
         ensures recorded { OnOk result (vec_len self.new.changes ≡ vec_len self.old.changes + 1) }

@@ -1,4 +1,4 @@
-//! A program that edits outlines: documents of numbered paragraphs, with bookmarks and undo.
+//! An editor of outlines: documents of numbered paragraphs, with bookmarks and undo.
 #![tactic(auto)]
 
 mod command_error;

@@ -1,4 +1,4 @@
-//! What an editor writes: paragraphs, documents and bookmarks.
+//! Reads of paragraphs, documents and bookmarks.
 
 use crate::command_error::CommandError;
 use crate::editor::{Editor, Paragraph, Title};
@@ -9,16 +9,10 @@ use documents::{Document, Entry};
 use std::alloc::AllocError;
 
 impl<P: PtrKey, A: ChainArenaTrait<P, Entry<Paragraph>> + Drop> Editor<P, A> {
-    /// Returns all documents, in the order of creation.
     pub fn titles(&self) -> &[Title<P>] {
         &self.titles
     }
 
-    /// Returns the numbers of the paragraphs of a document, in order.
-    ///
-    /// # Errors
-    ///
-    /// - `AllocError`: an allocation failed.
     pub fn numbers(&self, document: Document<P>) -> Result<Vec<usize>, AllocError> {
         let mut numbers = Vec::new(self.alloc);
         let mut paragraph = self.outline.first(document);
@@ -32,11 +26,6 @@ impl<P: PtrKey, A: ChainArenaTrait<P, Entry<Paragraph>> + Drop> Editor<P, A> {
         Ok(numbers)
     }
 
-    /// Returns the numbers of the paragraphs of a document, from the last to the first.
-    ///
-    /// # Errors
-    ///
-    /// - `AllocError`: an allocation failed.
     pub fn numbers_back(&self, document: Document<P>) -> Result<Vec<usize>, AllocError> {
         let mut numbers = Vec::new(self.alloc);
         let mut paragraph = self.outline.last(document);
@@ -50,7 +39,6 @@ impl<P: PtrKey, A: ChainArenaTrait<P, Entry<Paragraph>> + Drop> Editor<P, A> {
         Ok(numbers)
     }
 
-    /// Pushes the number of a paragraph.
     fn push_number(&self, p: P, numbers: &mut Vec<usize>) -> Result<(), AllocError> {
         if let Some(number) = self.number_of(p) {
             numbers.push(number)?;
@@ -58,12 +46,6 @@ impl<P: PtrKey, A: ChainArenaTrait<P, Entry<Paragraph>> + Drop> Editor<P, A> {
         Ok(())
     }
 
-    /// Returns the text of a paragraph.
-    ///
-    /// # Errors
-    ///
-    /// - `UnknownParagraph`: no paragraph has the number.
-    /// - `DeletedParagraph`: the paragraph was deleted.
     pub fn text(&self, number: usize) -> Result<&str, Refusal> {
         let p = self.paragraph(number)?;
         match self.outline.get(p) {
@@ -72,12 +54,7 @@ impl<P: PtrKey, A: ChainArenaTrait<P, Entry<Paragraph>> + Drop> Editor<P, A> {
         }
     }
 
-    /// Returns the number of a bookmarked paragraph and the name of its document.
-    ///
-    /// # Errors
-    ///
-    /// - `UnknownBookmark`: no bookmark has the name.
-    /// - `DeletedParagraph`: the paragraph was deleted.
+    /// Returns the number and the document of a bookmarked paragraph.
     pub fn bookmark(&self, name: &str) -> Result<(usize, &str), Refusal> {
         let Some(number) = self.bookmarks.get(name) else {
             return Err(Refusal::UnknownBookmark);

@@ -1,4 +1,4 @@
-//! Renumbering of the links of all documents.
+//! Renumbering of all documents.
 
 ghost use Rattle.std.specs.Prelude.{◌≡◌, OnErr};
 
@@ -9,11 +9,7 @@ use documents::{Entry, moved_document, renumber};
 use std::alloc::AllocError;
 
 impl<P: PtrKey, A: RenumberChainArenaTrait<P, Entry<Paragraph>> + Drop> Editor<P, A> {
-    /// Stores the paragraphs of each document one after another. Nothing visible changes.
-    ///
-    /// # Errors
-    ///
-    /// - `AllocError`: an allocation failed. Nothing changes.
+    /// Stores the paragraphs of each document one after another; nothing visible changes.
     pub fn renumber(&mut self) -> Result<(), AllocError>
         ensures err { OnErr result (self.new ≡ self.old) }
         ensures changes { self.new.changes ≡ self.old.changes }
@@ -28,7 +24,6 @@ impl<P: PtrKey, A: RenumberChainArenaTrait<P, Entry<Paragraph>> + Drop> Editor<P
     }
 }
 
-/// Replaces the handle of each document by its new one.
 fn move_titles<P: PtrKey>(moved: &Renumbering<P>, titles: &mut [Title<P>]) {
     for title in titles {
         if let Some(handle) = moved_document(moved, title.handle) {
@@ -37,7 +32,6 @@ fn move_titles<P: PtrKey>(moved: &Renumbering<P>, titles: &mut [Title<P>]) {
     }
 }
 
-/// Replaces the pointer of each paragraph by its new one.
 fn move_paragraphs<P: PtrKey>(moved: &Renumbering<P>, paragraphs: &mut [Numbered<P>]) {
     for numbered in paragraphs {
         if let Some(pointer) = moved.new_pointer(numbered.pointer) {

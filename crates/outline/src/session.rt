@@ -1,4 +1,4 @@
-//! Runs, which read lines from a reader and write their responses to a writer.
+//! Sessions, which execute lines and respond.
 
 use crate::command_error::CommandError;
 use crate::editor::{Editor, Paragraph};
@@ -11,14 +11,11 @@ use documents::Entry;
 use std::alloc::{AllocError, AllocFailed, Global};
 use std::io::{ErrorKind, Read, Write};
 
-/// The reason that a run stopped before the end of its input.
+/// Why a run failed.
 #[derive(Clone, Copy, Debug, PartialEq, Eq)]
 pub enum RunError {
-    /// The reader failed.
     Read,
-    /// The writer failed.
     Write,
-    /// An allocation failed.
     Memory,
 }
 
@@ -34,7 +31,7 @@ impl<T: Drop> From<AllocFailed<T>> for RunError {
     }
 }
 
-/// A run: its editor, how many lines there have been, and the response to the last one.
+/// An editor, the number of lines so far, and the response to the last one.
 #[derive(Drop)]
 pub struct Session<P: PtrKey, A: RenumberChainArenaTrait<P, Entry<Paragraph>> + Drop> {
     editor: Editor<P, A>,
@@ -43,15 +40,9 @@ pub struct Session<P: PtrKey, A: RenumberChainArenaTrait<P, Entry<Paragraph>> + 
     alloc: Global,
 }
 
-/// The session of the program.
 pub type ToolSession = Session<ToolPtr, ChainArena<ToolPtr, Entry<Paragraph>>>;
 
 impl<P: PtrKey, A: RenumberChainArenaTrait<P, Entry<Paragraph>> + Drop> Session<P, A> {
-    /// Begins a session without documents.
-    ///
-    /// # Errors
-    ///
-    /// - `AllocError`: an allocation failed.
     pub fn new(alloc: Global) -> Result<Self, AllocError> {
         Ok(Session {
             editor: Editor::new(alloc)?,
@@ -61,11 +52,6 @@ impl<P: PtrKey, A: RenumberChainArenaTrait<P, Entry<Paragraph>> + Drop> Session<
         })
     }
 
-    /// Executes a line and returns its response.
-    ///
-    /// # Errors
-    ///
-    /// - `AllocError`: an allocation failed.
     pub fn respond(&mut self, line: &[u8]) -> Result<&str, AllocError> {
         self.lines = self.lines.saturating_add(1);
         self.response.clear();
@@ -83,23 +69,16 @@ impl<P: PtrKey, A: RenumberChainArenaTrait<P, Entry<Paragraph>> + Drop> Session<
         }
     }
 
-    /// Responds why the line is refused.
     fn refuse(&mut self, refusal: Refusal) -> Result<(), AllocError> {
         let text = format!(in self.alloc; "line {}: {}\n", self.lines, reason(refusal))?;
         self.response.push_str(&text)
     }
 
-    /// Returns the editor.
     pub fn editor(&self) -> &Editor<P, A> {
         &self.editor
     }
 
-    /// Executes a command.
-    ///
-    /// # Errors
-    ///
-    /// - `Refused`: the command is refused, and the editor is unchanged.
-    /// - `Memory`: an allocation failed.
+    /// Executes a command and appends its response.
     pub fn execute(&mut self, line: Line<'_>) -> Result<(), CommandError> {
         match line {
             Line::Go(name) => self.go(name),
@@ -122,7 +101,6 @@ impl<P: PtrKey, A: RenumberChainArenaTrait<P, Entry<Paragraph>> + Drop> Session<
         }
     }
 
-    /// Executes a command that has no response.
     fn change(&mut self, line: Line<'_>) -> Result<(), CommandError> {
         match line {
             Line::Document(name) => self.editor.create(name),
@@ -138,19 +116,16 @@ impl<P: PtrKey, A: RenumberChainArenaTrait<P, Entry<Paragraph>> + Drop> Session<
         }
     }
 
-    /// Responds with the number of a paragraph that was inserted.
     fn respond_number(&mut self, number: usize) -> Result<(), AllocError> {
         let text = format!(in self.alloc; "paragraph {}\n", number)?;
         self.response.push_str(&text)
     }
 
-    /// Responds with a paragraph.
     fn respond_paragraph(&mut self, number: usize) -> Result<(), CommandError> {
         let text = format!(in self.alloc; "{} {}\n", number, self.editor.text(number)?)?;
         Ok(self.response.push_str(&text)?)
     }
 
-    /// Responds with a bookmarked paragraph.
     fn go(&mut self, name: &str) -> Result<(), CommandError> {
         let (number, document) = self.editor.bookmark(name)?;
         self.response.push_str(document)?;
@@ -158,7 +133,6 @@ impl<P: PtrKey, A: RenumberChainArenaTrait<P, Entry<Paragraph>> + Drop> Session<
         self.respond_paragraph(number)
     }
 
-    /// Responds with the paragraphs of a document.
     fn print(&mut self, name: &str) -> Result<(), CommandError> {
         let document = self.editor.document(name)?;
         for number in self.editor.numbers(document)? {
@@ -167,7 +141,6 @@ impl<P: PtrKey, A: RenumberChainArenaTrait<P, Entry<Paragraph>> + Drop> Session<
         Ok(())
     }
 
-    /// Responds with the paragraphs of a document, from the last to the first.
     fn print_back(&mut self, name: &str) -> Result<(), CommandError> {
         let document = self.editor.document(name)?;
         for number in self.editor.numbers_back(document)? {
@@ -176,7 +149,6 @@ impl<P: PtrKey, A: RenumberChainArenaTrait<P, Entry<Paragraph>> + Drop> Session<
         Ok(())
     }
 
-    /// Responds with the documents and their numbers of paragraphs.
     fn list(&mut self) -> Result<(), AllocError> {
         for title in self.editor.titles() {
             let count = self.editor.numbers(title.handle)?.len();
@@ -186,8 +158,7 @@ impl<P: PtrKey, A: RenumberChainArenaTrait<P, Entry<Paragraph>> + Drop> Session<
         Ok(())
     }
 
-    /// Executes the lines that a piece of the input completes, and keeps the beginning of the next
-    /// line, of which one byte more than the maximum is enough.
+    // Keeps one byte over `MAX_LINE`, so that `parse` refuses the line.
     fn feed<W: Write>(
         &mut self,
         piece: &[u8],
@@ -205,7 +176,6 @@ impl<P: PtrKey, A: RenumberChainArenaTrait<P, Entry<Paragraph>> + Drop> Session<
         Ok(())
     }
 
-    /// Executes a line and writes its response.
     fn end_line<W: Write>(&mut self, line: &[u8], writer: &mut W) -> Result<(), RunError> {
         let response = self.respond(line)?;
         writer
@@ -214,9 +184,7 @@ impl<P: PtrKey, A: RenumberChainArenaTrait<P, Entry<Paragraph>> + Drop> Session<
     }
 }
 
-/// Runs the lines of a reader on a session and writes the output to a writer.
-///
-/// The writer is flushed before each read.
+// Flushes the writer before each read.
 fn run_on<P: PtrKey, A: RenumberChainArenaTrait<P, Entry<Paragraph>> + Drop, R: Read, W: Write>(
     session: &mut Session<P, A>,
     reader: &mut R,
@@ -225,7 +193,7 @@ fn run_on<P: PtrKey, A: RenumberChainArenaTrait<P, Entry<Paragraph>> + Drop, R: 
     let alloc = session.alloc;
     let mut piece = vec![in alloc; 0u8; 65536]?;
     let mut line = Vec::new(alloc);
-    // Each loop is proved to end, so the reads are bounded.
+    // Bounded, since each loop is proved to end.
     for _ in 0..u64::MAX {
         if writer.flush().is_err() {
             return Err(RunError::Write);
@@ -246,15 +214,7 @@ fn run_on<P: PtrKey, A: RenumberChainArenaTrait<P, Entry<Paragraph>> + Drop, R: 
     Err(RunError::Read)
 }
 
-/// Runs the lines of a reader on a new editor and writes the output to a writer.
-///
-/// # Errors
-///
-/// - `Memory`: an allocation failed.
-/// - `Write`: the writer failed.
-/// - `Read`: the reader failed.
-///
-/// Lines executed before the error keep their effect.
+/// Executes the lines of a reader and writes the responses.
 pub fn run<R: Read, W: Write>(
     alloc: Global,
     reader: &mut R,

@@ -6,8 +6,8 @@ use std::io;
 use std::io::{Read, Write};
 use std::process::{ExitCode, Termination};
 
-/// The exit status of a run. Only `edit_input` makes one, and none is dropped, so `main`
-/// returns that of its run.
+/// An exit status. Only `edit_input` makes one, and none is dropped, so `main` returns that of its
+/// run.
 pub struct Status {
     code: ExitCode,
 }
@@ -19,8 +19,7 @@ impl Termination for Status {
     }
 }
 
-/// Runs the lines of a reader, with output to a writer if there is memory for its buffer.
-/// Returns the exit status, 0 or 2, and writes a fault to `errors`.
+/// Runs the lines of a reader, writes a fault to `errors`, and returns status 0 or 2.
 pub fn edit_input<R: Read, W: Write + Drop, E: Write>(
     alloc: Global,
     reader: &mut R,
@@ -41,7 +40,6 @@ pub fn edit_input<R: Read, W: Write + Drop, E: Write>(
     Status { code }
 }
 
-/// Returns the line that is written to standard error at a fault.
 fn reason(error: RunError) -> &'static str {
     match error {
         RunError::Read => "outline: cannot read\n",

@@ -1,4 +1,4 @@
-//! Tests of lines, of random changes, and of runs over readers and writers in memory.
+//! Tests of lines, random changes and runs.
 
 mod model;
 
@@ -13,7 +13,6 @@ use std::io;
 use std::io::{BufWriter, ErrorKind, Read, Write, sink};
 use std::process::{Abort, ExitCode, Termination};
 
-/// Lines, and what they are.
 const LINES: [(&str, Result<Line<'static>, Refusal>); 37] = [
     ("", Ok(Line::Blank)),
     (" \u{3000} ", Ok(Line::Blank)),
@@ -63,7 +62,6 @@ const LINES: [(&str, Result<Line<'static>, Refusal>); 37] = [
     ("list\r", Err(Refusal::BadText)),
 ];
 
-/// Returns the number of rows whose line is parsed as another.
 fn wrong_rows() -> usize {
     LINES
         .iter()
@@ -79,14 +77,12 @@ fn lines_are_parsed(rt: HostRuntime) {
     assert!(rt; parse(&[b' '; 201]) == Err(Refusal::BadText));
 }
 
-/// A generator of pseudorandom numbers.
 #[derive(Drop)]
 struct Random {
     state: u64,
 }
 
 impl Random {
-    /// Returns a number from 0 to `greatest`.
     fn up_to(&mut self, greatest: usize) -> usize {
         self.state = self
             .state
@@ -96,7 +92,6 @@ impl Random {
         number.checked_rem(greatest.saturating_add(1)).unwrap_or(0)
     }
 
-    /// Returns the name of a document.
     fn name(&mut self) -> &'static str {
         match self.up_to(3) {
             0 => "a",
@@ -106,7 +101,6 @@ impl Random {
         }
     }
 
-    /// Returns a destination in an outline with `count` paragraphs.
     fn place(&mut self, count: usize) -> Place<'static> {
         match self.up_to(3) {
             0 => Place::First(self.name()),
@@ -115,7 +109,6 @@ impl Random {
         }
     }
 
-    /// Returns a command to an outline with `count` paragraphs.
     fn line(&mut self, count: usize) -> Line<'static> {
         let number = self.up_to(count.saturating_add(1));
         match self.up_to(15) {
@@ -134,7 +127,6 @@ impl Random {
     }
 }
 
-/// Returns whether a session has the documents of the model.
 fn agrees(session: &ToolSession, model: &Model) -> Result<bool, AllocError> {
     let editor = session.editor();
     if editor.titles().len() != model.documents().len() {
@@ -151,8 +143,7 @@ fn agrees(session: &ToolSession, model: &Model) -> Result<bool, AllocError> {
     Ok(true)
 }
 
-/// Executes random commands on a session and on a model, then undoes everything. Returns how often
-/// they differ.
+// Counts differences during random commands and while all are undone.
 fn differences(alloc: Global, seed: u64, steps: usize) -> Result<usize, AllocError> {
     let mut random = Random { state: seed };
     let mut session: ToolSession = Session::new(alloc)?;
@@ -187,7 +178,6 @@ fn random_changes_are_those_of_the_model(rt: HostRuntime) {
     }
 }
 
-/// A reader and writer whose every operation fails.
 #[derive(Drop)]
 struct Failing;
 
@@ -207,7 +197,6 @@ impl Write for Failing {
     }
 }
 
-/// Checks that a run ends with this status and writes this text to standard error.
 fn check<R: Read + Drop, W: Write + Drop>(
     rt: &(impl Abort + Eprint),
     alloc: Global,

@@ -1,4 +1,4 @@
-//! Undoing of changes, each by its inverse.
+//! Undo of changes by their inverses.
 
 ghost use Rattle.std.specs.Prelude.{◌≡◌, ◌+◌, OnErr, OnOk, vec_len};
 
@@ -8,42 +8,30 @@ use arena_ptr::PtrKey;
 use chain_traits::ChainArenaTrait;
 use documents::Entry;
 
-/// Where a range of paragraphs was. Paragraphs and documents are given by their numbers.
+/// Where a range was, by number.
 #[derive(Clone, Copy, Debug, PartialEq, Eq)]
 pub enum Origin {
-    /// At the start of a document.
     First(usize),
-    /// Directly after a paragraph.
     After(usize),
 }
 
-/// A change, with what its inverse needs. Paragraphs and documents are given by their numbers.
+/// A change, with what its inverse needs.
 #[derive(Drop)]
 pub enum Change {
     /// No paragraph was moved.
     Nothing,
-    /// The last document was created.
     Document,
-    /// The last paragraph was inserted.
     Insertion,
-    /// A paragraph had this text.
+    /// The former text.
     Edit(usize, String),
-    /// A paragraph was deleted.
     Deletion(usize, Origin),
-    /// The paragraphs from one to another were moved.
     Move(usize, usize, Origin),
-    /// The paragraphs of the last document were split off from a document.
     Split(usize),
-    /// A bookmark was set. Before, it was at another paragraph or did not exist.
     Mark(String, Option<usize>),
 }
 
 impl<P: PtrKey, A: ChainArenaTrait<P, Entry<Paragraph>> + Drop> Editor<P, A> {
     /// Undoes the last change that was not undone.
-    ///
-    /// # Errors
-    ///
-    /// - `NothingToUndo`: there is none.
     pub fn undo(&mut self) -> Result<(), Refusal>
         ensures err { OnErr result ((vec_len self.old.changes ≡ 0) × (self.new ≡ self.old)) }
         ensures one { OnOk result (vec_len self.new.changes + 1 ≡ vec_len self.old.changes) }
@@ -60,7 +48,6 @@ impl<P: PtrKey, A: ChainArenaTrait<P, Entry<Paragraph>> + Drop> Editor<P, A> {
         }
     }
 
-    /// Reverses the last change. Returns `None` if it is another one.
     fn reverse(&mut self, change: Change) -> Option<()>
         ensures { self.new.changes ≡ self.old.changes }
     {
@@ -84,7 +71,6 @@ impl<P: PtrKey, A: ChainArenaTrait<P, Entry<Paragraph>> + Drop> Editor<P, A> {
         }
     }
 
-    /// Removes the last document, which is empty, and its name.
     fn drop_last_document(&mut self) -> Option<()>
         ensures { self.new.changes ≡ self.old.changes }
     {
@@ -94,7 +80,6 @@ impl<P: PtrKey, A: ChainArenaTrait<P, Entry<Paragraph>> + Drop> Editor<P, A> {
         Some(())
     }
 
-    /// Removes the last paragraph and its number.
     fn drop_last_paragraph(&mut self) -> Option<()>
         ensures { self.new.changes ≡ self.old.changes }
     {
@@ -103,7 +88,6 @@ impl<P: PtrKey, A: ChainArenaTrait<P, Entry<Paragraph>> + Drop> Editor<P, A> {
         Some(())
     }
 
-    /// Gives a paragraph its former text.
     fn restore_text(&mut self, number: usize, text: String) -> Option<()>
         ensures { self.new.changes ≡ self.old.changes }
     {
@@ -112,7 +96,6 @@ impl<P: PtrKey, A: ChainArenaTrait<P, Entry<Paragraph>> + Drop> Editor<P, A> {
         Some(())
     }
 
-    /// Moves a range of paragraphs to where it was.
     fn put_back(&mut self, first: usize, last: usize, origin: Origin) -> Option<()>
         ensures { self.new.changes ≡ self.old.changes }
     {
@@ -125,7 +108,6 @@ impl<P: PtrKey, A: ChainArenaTrait<P, Entry<Paragraph>> + Drop> Editor<P, A> {
         self.put_range(p, q, target).ok()
     }
 
-    /// Moves a bookmark to where it was, or removes it.
     fn restore_mark(&mut self, name: &str, former: Option<usize>) -> Option<()>
         ensures { self.new.changes ≡ self.old.changes }
     {

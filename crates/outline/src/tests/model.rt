@@ -1,18 +1,17 @@
-//! A model of outlines: documents are vectors of the numbers of their paragraphs.
+//! A model of outlines in plain vectors.
 
 use crate::line::{Line, Place};
 use std::alloc::{AllocError, Global};
 use std::mem;
 
-/// A document: its name, and the numbers of its paragraphs.
+/// A document: its name and the numbers of its paragraphs.
 #[derive(Drop, Clone)]
 pub struct Numbers {
     pub name: &'static str,
     pub numbers: Vec<usize>,
 }
 
-/// Documents in the order of creation, how many paragraphs were inserted, and these two before each
-/// change.
+/// The state, and the states before each change.
 #[derive(Drop)]
 pub struct Model {
     documents: Vec<Numbers>,
@@ -22,7 +21,6 @@ pub struct Model {
 }
 
 impl Model {
-    /// Creates a model without documents.
     pub fn new(alloc: Global) -> Model {
         Model {
             documents: Vec::new(alloc),
@@ -32,17 +30,16 @@ impl Model {
         }
     }
 
-    /// Returns the documents.
     pub fn documents(&self) -> &[Numbers] {
         &self.documents
     }
 
-    /// Returns how many paragraphs were inserted.
+    /// How many paragraphs were inserted.
     pub fn count(&self) -> usize {
         self.count
     }
 
-    /// Executes a command, and returns whether it is accepted.
+    /// Executes a command and returns whether it is accepted.
     pub fn execute(&mut self, line: Line<'static>) -> Result<bool, AllocError> {
         let former = (self.documents.clone()?, self.count);
         let is_accepted = self.change(line)?;
@@ -54,7 +51,7 @@ impl Model {
         Ok(is_accepted)
     }
 
-    /// Executes a command. If it is not accepted, the model may be changed.
+    // A command that is not accepted may change the model.
     fn change(&mut self, line: Line<'static>) -> Result<bool, AllocError> {
         match line {
             Line::Document(name) => self.create(name, Vec::new(self.alloc)),
@@ -80,7 +77,6 @@ impl Model {
         }
     }
 
-    /// Creates a document, if the name is free.
     fn create(&mut self, name: &'static str, numbers: Vec<usize>) -> Result<bool, AllocError> {
         if self.documents.iter().any(|document| document.name == name) {
             return Ok(false);
@@ -89,13 +85,11 @@ impl Model {
         Ok(true)
     }
 
-    /// Inserts a paragraph.
     fn insert(&mut self, place: Place<'static>) -> Result<bool, AllocError> {
         self.count = self.count.saturating_add(1);
         self.put(&[self.count], place)
     }
 
-    /// Inserts numbers at a place, if it exists.
     fn put(&mut self, range: &[usize], place: Place<'static>) -> Result<bool, AllocError> {
         for document in &mut self.documents {
             if let Some(index) = index_of(document, place) {
@@ -110,8 +104,7 @@ impl Model {
         Ok(false)
     }
 
-    /// Takes the numbers from `first` to `last` out of their document, and returns them, or none if
-    /// they are not a range.
+    // Returns no numbers if they are not a range.
     fn take(&mut self, first: usize, last: usize) -> Result<Vec<usize>, AllocError> {
         let mut range = Vec::new(self.alloc);
         for document in &mut self.documents {
@@ -125,7 +118,7 @@ impl Model {
         Ok(range)
     }
 
-    /// Returns the last number of the document of a paragraph, or 0.
+    // 0 if there is none.
     fn last_of(&self, number: usize) -> usize {
         for document in &self.documents {
             if document.numbers.contains(&number) {
@@ -135,7 +128,6 @@ impl Model {
         0
     }
 
-    /// Moves the numbers of a document to the end of another one.
     fn join(&mut self, name: &'static str, other: &'static str) -> Result<bool, AllocError> {
         for document in &mut self.documents {
             if document.name == other && name != other {
@@ -146,7 +138,6 @@ impl Model {
         Ok(false)
     }
 
-    /// Restores the state before the last change, if there is one.
     fn undo(&mut self) -> bool {
         match self.past.pop() {
             Some(former) => {
@@ -158,7 +149,6 @@ impl Model {
     }
 }
 
-/// Returns the index at which a place is in a document, or `None` if it is not in the document.
 fn index_of(document: &Numbers, place: Place<'static>) -> Option<usize> {
     match place {
         Place::First(name) if name == document.name => Some(0),
