@@ -1,4 +1,4 @@
--- The effect on lists of a new list, a new value and a removal.
+-- New lists, new values and removals.
 use Rattle.std.proofs.Common.{◌≡◌, ◌≢◌, ℕ, inl, inr, ⊎_elim, List, [], ◌∷◌, ◌++◌, map, Option, None, Some, refl, sym, ap, ◌∙◌, subst}
 use Rattle.std.specs.Prelude.{Bool, is_some, true, IfNone, OnErr, OnSome, Result, Ok, Err, IfSome}
 use Rattle.std.specs.Borrow.{MutBor}
@@ -89,7 +89,6 @@ module _ {A Gen T : Type 0} {view : A → ArenaView Gen (Entry T)} {entry : A �
           λ among. apart (ring_more at.handle at.before ((p, former) ∷ at.after) ((p, t) ∷ at.after) (λ j has. has) i among),
         ))
 
-  -- An item leaves its list and the arena.
   module _ {P I W : Type 0} (pointers : PointerKind P I Gen W) (old new : A) (p : P) where
     item_removed : (t : T) → rings.IsItemRemoved state interlinks cyclic old new pointers (pointers.key p, entries.Item t) → LeavesList state interlinks old new pointers (pointers.key p) t
     item_removed t is = record {
@@ -137,7 +136,6 @@ module _ {A Gen T : Type 0} {view : A → ArenaView Gen (Entry T)} {entry : A �
               (ring_member h (before ++ (pointers.key p, t) ∷ after) i among),
         )
 
--- A value is written through a reference.
 module _ {A Gen T : Type 0} {view : A → ArenaView Gen (Entry T)} {entry : A → ℕ → Option (Gen × Entry T)} (state : (a : A) → ArenaState (view a) (entry a)) (interlinks : A → LinkMap) (old new : A) (p : ℕ × Gen) (item : IsItem (entry old) p) where
   pub written : (t : T) → view new ≡ view_with_value (view old) p.0 (entries.Item t) → interlinks new ≡ interlinks old → ValueBecomes state interlinks old new p t
   written t is same = new_value state interlinks old new p t (has_new_value state interlinks cyclic (λ l. refl) old new p.0 (entries.Item t) is p.1 same)

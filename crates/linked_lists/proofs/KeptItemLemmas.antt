@@ -1,4 +1,4 @@
--- What becomes of an item with each change of lists.
+-- What each change does to an item.
 use Rattle.std.proofs.Common.{◌≡◌, ◌≢◌, ℕ, inl, inr, ⊎_elim, List, [], ◌∷◌, ◌++◌, Option, None, Some, refl, sym, ap, ◌∙◌, subst}
 use Rattle.std.specs.Prelude.{◌⊎◌, is_some, true}
 use Rattle.std.specs.Option.{option_map}

@@ -1,4 +1,4 @@
--- Lists as rings: each list has one handle, and each item of an arena is in one list.
+-- Each list has one handle, and each item is in one list.
 use Rattle.std.proofs.Common.{◌≡◌, ℕ, inl, inr, ⊎_elim, List, [], ◌∷◌, ◌++◌, map, Option, None, Some, refl, sym, ap, ◌∙◌, subst}
 use Rattle.std.specs.Prelude.{◌⊎◌, is_some, true}
 use Rattle.std.proofs.lemmas.List.{map-append}

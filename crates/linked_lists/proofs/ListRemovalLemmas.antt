@@ -1,4 +1,4 @@
--- Removing the items of a list one by one, and then its head.
+-- Removal of the items of a list, then its head.
 use Rattle.std.proofs.Common.{◌≡◌, ◌≢◌, ℕ, zero, suc, ◌+◌, ◌<◌, inl, ⊎_elim, List, [], ◌∷◌, ◌++◌, Option, None, Some, refl, sym, ap, ◌∙◌, subst, append_assoc, arith}
 use Rattle.std.specs.Prelude.{Bool, true, false, ◌||◌, IfSome, OnSome, length, is_some}
 use Rattle.std.specs.Option.{option_map}
@@ -69,7 +69,7 @@ module _ {A Gen T : Type 0} {view : A → ArenaView Gen (Entry T)} {entry : A �
     entries = λ k apart. kept k (λ same. apart (IsMember-right is (i ∷ []) k (inl (sym same)))) ∙ part.entries k (λ before. apart (IsMember-left is (i ∷ []) k before));
   }
 
-  -- The first items of the list of `h` are removed, and the others are left.
+  -- The first items of `h` are removed, and the others are left.
   pub record IsPartlyEmptied (wraps : Gen → Bool) (following : Gen → Gen) (old now : A) (h : ℕ × Gen) (wrapped : Bool) : Type 0 where
     pub gone : List (Item Gen T)
     pub rest : List (Item Gen T)
@@ -149,7 +149,6 @@ module _ {A Gen T : Type 0} {view : A → ArenaView Gen (Entry T)} {entry : A �
       by [] was list = record { items = part.gone; was = subst (IsList state interlinks old (key h)) (append-nil part.gone) was; list = list; removed = part.removed; others = part.others; number = omega (arith, part.size, total); overflow = part.overflow }
       by (e ∷ es) was list = absurd (let none = reads.first (e ∷ es) list in cc)
 
-  -- The head of an empty list is removed.
   module _ {P I W : Type 0} (pointers : PointerKind P I Gen W) (old now new : A) (h : P) (n : ℕ × Bool) (emptied : EmptiesList state interlinks pointers.wraps pointers.following old (pointers.key h) n now) where
     empty : IsList state interlinks now (pointers.key h) []
     empty = emptied.list

@@ -1,4 +1,4 @@
--- The effect on lists of moving an item directly after another link.
+-- Moves of an item directly after another link.
 use Rattle.std.proofs.Common.{◌≡◌, ◌≢◌, ℕ, inl, inr, ⊎_elim, List, [], ◌∷◌, ◌++◌, map, Option, None, Some, refl, sym, ap, ◌∙◌, subst, append_assoc}
 use Rattle.std.specs.Prelude.{◌⊎◌, is_some, true, IfNone}
 use Rattle.std.proofs.lemmas.Bool.{cases_eq}
@@ -80,7 +80,7 @@ module _ {A Gen V : Type 0} {view : A → ArenaView Gen V} {entry : A → ℕ �
   pub moved_rest : (xs : List (Item Gen V)) → (IsMember (indexes xs) p.0 → ⊥) → (IsMember (indexes xs) q.0 → ⊥) → IsRing state interlinks old xs → IsRing state interlinks new xs
   moved_rest xs no_p no_q is = stays state interlinks cyclic old new same xs is.are_stored (moves.rest (cyclic (indexes xs)) no_p no_q is.chain)
 
--- In the ring of a list, `e` comes after the link `q`.
+-- In the ring of a list, `e` comes after `q`.
 pub record ComesAfter {Gen T : Type 0} (q k : ℕ × Gen) (e : Item Gen T) (others items : List (Item Gen T)) : Type 0 where
   pub value : Entry T
   pub before : List (Item Gen (Entry T))
@@ -156,12 +156,11 @@ module _ {A Gen T : Type 0} {view : A → ArenaView Gen (Entry T)} {entry : A �
       entries = kept;
     }
 
-  -- Where the item of `p` in the list of `h` goes: within the list, or to another one.
+  -- Where an item goes: within its list, or to another one.
   abbrev pub Goes : ℕ × Gen → T → List (Item Gen T) → List (Item Gen T) → Type 0
   Goes h t before after = ((items : List (Item Gen T)) × place h (p, t) (before ++ after) items)
       ⊎ ((k : ℕ × Gen) × (others : List (Item Gen T)) × (items : List (Item Gen T)) × (h ≢ k) × IsList state interlinks old k others × place k (p, t) others items)
 
-  -- Where the item goes, the other items stay.
   abbrev pub KeepsLinks : Type 0
   KeepsLinks = (k : ℕ × Gen) (t : T) (others items : List (Item Gen T)) → place k (p, t) others items → (i : ℕ) → ((p.0 ≡ i) ⊎ IsMember (indexes (ring_of k others)) i) → IsMember (indexes (ring_of k items)) i
 
@@ -196,7 +195,6 @@ handle_or_other {Gen} entry h k one two = ⊎_elim
     (λ other. inr (λ same. other (ap (λ (q : ℕ × Gen). q.0) same)))
     (cases_eq h.0 k.0)
 
--- Where an item is moved.
 module _ {Gen T : Type 0} where
   pub start_place : (h k : ℕ × Gen) (e : Item Gen T) (others items : List (Item Gen T)) → AtStart h k e others items → ComesAfter h k e others items
   start_place h k e others items (same, is) = record {
@@ -291,7 +289,6 @@ module _ {A Gen T : Type 0} {view : A → ArenaView Gen (Entry T)} {entry : A �
         (λ other. let list = list_of state interlinks old each h head in inr (h, list.0, (p, t) ∷ list.0, other, list.1, (refl, refl)))
         (handle_or_other (entry old) k h was.are_stored.0 head))
 
-    -- To the end of the list of `h`, whose last link is `l`.
     module _ (h : ℕ × Gen) (item : IsItem (entry old) p) (head : IsHandle (entry old) h) where
       pub moved_to_back : {P : Type 0} (key : P → ℕ × Gen) (a l : P) → key a ≡ p → key l ≢ p → ((items : List (Item Gen T)) → IsList state interlinks old h items → Some (key l) ≡ last_key (ring_of h items)) → IsValid (entry old) (key l)
           → (r : Option Unit) → MovesLinkAfter state interlinks key old a l r new → IfNone r (new ≡ old) → MovesToBack state interlinks old p h r new

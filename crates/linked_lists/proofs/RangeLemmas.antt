@@ -1,4 +1,4 @@
--- The effect on lists of moving a range of items directly after another link.
+-- Moves of a range directly after another link.
 use Rattle.std.proofs.Common.{◌≡◌, ◌≢◌, ℕ, inl, inr, ⊎_elim, List, [], ◌∷◌, ◌++◌, map, Option, None, Some, refl, sym, ap, ◌∙◌, subst, append_assoc}
 use Rattle.std.specs.Prelude.{◌⊎◌, is_some, true, IfNone}
 use Rattle.std.proofs.lemmas.List.{map-append, append-nil}
@@ -20,7 +20,6 @@ use Rattle.linked_lists.proofs.ListLemmas.{ring_parts, ring_has, ring_member, ri
 use Rattle.linked_lists.proofs.MoveLemmas.{in_one_part, handle_or_other, entries_kept}
 use Rattle.linked_lists.proofs.RunLemmas.{is_run, first_among, last_among, run_leaves, run_comes, run_elsewhere}
 
--- The ends of the entries of a range.
 module _ {Gen T : Type 0} where
   first_of_entries : (es : List (Item Gen T)) (f : ℕ × Gen) → first_key es ≡ Some f → first_key (map as_item es) ≡ Some f
   first_of_entries [] f is = is
@@ -59,7 +58,7 @@ module _ {Gen T : Type 0} where
   not_empty [] e ys none = cc
   not_empty (x ∷ xs) e ys none = cc
 
--- In the ring of a list, the range comes after the link `q`.
+-- In the ring of a list, the range comes after `q`.
 pub record RangeComesAfter {Gen T : Type 0} (q k : ℕ × Gen) (range others items : List (Item Gen T)) : Type 0 where
   pub value : Entry T
   pub before : List (Item Gen (Entry T))
@@ -70,7 +69,6 @@ pub record RangeComesAfter {Gen T : Type 0} (q k : ℕ × Gen) (range others ite
 range_has_place : {Gen T : Type 0} (q k : ℕ × Gen) (range others items : List (Item Gen T)) → RangeComesAfter q k range others items → IsMember (indexes (ring_of k others)) q.0
 range_has_place {Gen} {T} q k range others items at = subst (λ (l : List (Item Gen (Entry T))). IsMember (indexes l) q.0) (sym at.was) (among-right at.before ((q, at.value) ∷ at.after) q.0 (inl refl))
 
--- A run of a ring is moved after the link of `l` in the same ring.
 module _ {A Gen V : Type 0} {view : A → ArenaView Gen V} {entry : A → ℕ → Option (Gen × V)} (state : (a : A) → ArenaState (view a) (entry a)) (interlinks : A → LinkMap)
     (old new : A) (l f z : ℕ × Gen) (splices : Splices (interlinks old) (interlinks new) l.0 f.0 z.0) (same : entry new ≡ entry old) (run : List (Item Gen V)) (ends : IsRun (indexes run) f.0 z.0) (s : V) where
   run_around : (u v : List (Item Gen V)) → IsRing state interlinks old (run ++ (u ++ (l, s) ∷ v)) → IsRing state interlinks new (u ++ (l, s) ∷ (run ++ v))
@@ -176,12 +174,11 @@ module _ {A Gen T : Type 0} {view : A → ArenaView Gen (Entry T)} {entry : A �
       entries = kept;
     }
 
-  -- Where a range in the list of `h` goes: within the list, or to another one.
+  -- Where a range goes: within its list, or to another one.
   abbrev pub RangeGoes : ℕ × Gen → (before range after : List (Item Gen T)) → Type 0
   RangeGoes h before range after = ((items : List (Item Gen T)) × place h range (before ++ after) items)
       ⊎ ((k : ℕ × Gen) × (others : List (Item Gen T)) × (items : List (Item Gen T)) × (h ≢ k) × IsList state interlinks old k others × place k range others items)
 
-  -- Where the range goes, the other items stay.
   abbrev pub KeepsLinks : Type 0
   KeepsLinks = (k : ℕ × Gen) (range others items : List (Item Gen T)) → place k range others items → (i : ℕ) → (IsMember (indexes range) i ⊎ IsMember (indexes (ring_of k others)) i) → IsMember (indexes (ring_of k items)) i
 

@@ -1,4 +1,4 @@
--- The calls that move a range: where it comes, and that each entry stays in a list.
+-- Calls that move a range; each entry stays in a list.
 use Rattle.std.proofs.Common.{◌≡◌, ◌≢◌, ℕ, inl, inr, ⊎_elim, List, [], ◌∷◌, ◌++◌, map, Option, None, Some, refl, sym, ap, ◌∙◌, subst, append_assoc}
 use Rattle.std.specs.Prelude.{◌⊎◌, is_some, true, IfNone}
 use Rattle.std.proofs.lemmas.List.{map-append, append-nil}
@@ -119,7 +119,6 @@ module _ {A Gen T : Type 0} {view : A → ArenaView Gen (Entry T)} {entry : A �
         (λ other. let list = list_of state interlinks old each h head in inr (h, list.0, at.range ++ list.0, other, list.1, (refl, refl)))
         (handle_or_other (entry old) at.handle h at.list.are_stored.0 head))
 
-    -- To the end of the list of `h`, whose last link is `l`.
     module _ (h q : ℕ × Gen) (at : IsRangeWithout state interlinks old first last q) (head : IsHandle (entry old) h) where
       pub moves_range_to_back : {P : Type 0} (key : P → ℕ × Gen) (f z l : P) → key f ≡ first → key z ≡ last → key l ≢ last → ((items : List (Item Gen T)) → IsList state interlinks old h items → Some (key l) ≡ last_key (ring_of h items)) → IsValid (entry old) (key l)
           → (r : Option Unit) → SplicesAfter state interlinks key old l f z r new → IfNone r (new ≡ old) → MovesRangeToBack state interlinks old first last h r new

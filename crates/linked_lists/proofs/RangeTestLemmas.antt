@@ -1,4 +1,4 @@
--- Whether two items are the ends of a range, by the walk from the first one.
+-- The ends of a range, by the walk from the first one.
 use Rattle.std.proofs.Common.{◌≡◌, ◌≢◌, ℕ, inl, inr, ⊎_elim, List, [], ◌∷◌, ◌++◌, map, Option, None, Some, refl, sym, ap, ◌∙◌, subst, append_assoc}
 use Rattle.std.specs.Prelude.{◌⊎◌, ◌↔◌, Bool, true, false, IsTrue, is_some}
 use Rattle.std.proofs.lemmas.List.{map-append, append-nil}
@@ -44,7 +44,7 @@ module _ {Gen T : Type 0} where
   cut_at e (x ∷ xs) ys [] vs no_left no_right f is same = absurd (no_left (inl (ap (λ (y : Item Gen T). y.0.0) (let first : x ≡ f = cc in first) ∙ is)))
   cut_at e (x ∷ xs) ys (u ∷ us) vs no_left no_right f is same = let rest : xs ++ e ∷ ys ≡ us ++ f ∷ vs = cc in cut_at e xs ys us vs (λ has. no_left (inr has)) (λ has. no_right (inr has)) f is rest
 
--- The walk has passed items of the list, none of which is `last` or `q`, and the others are ahead.
+-- The walk has passed items other than `last` and `q`, and the others are ahead.
 pub record IsPartlyPassed {Gen T : Type 0} (links : LinkMap) (walker : Walker) (last q : ℕ × Gen) (h : ℕ × Gen) (before from : List (Item Gen T)) : Type 0 where
   pub passed : List (Item Gen T)
   pub rest : List (Item Gen T)
@@ -54,7 +54,6 @@ pub record IsPartlyPassed {Gen T : Type 0} (links : LinkMap) (walker : Walker) (
   pub no_q : IsNoneOf (pointers_of passed) q
 
 module _ {A Gen T : Type 0} {view : A → ArenaView Gen (Entry T)} {entry : A → ℕ → Option (Gen × Entry T)} (state : (a : A) → ArenaState (view a) (entry a)) (interlinks : A → LinkMap) (a : A) (first last q : ℕ × Gen) where
-  -- This holds for the list of the first item.
   abbrev pub Passes : Walker → Type 0
   Passes walker = (h : ℕ × Gen) (t : T) (before after : List (Item Gen T)) → IsList state interlinks a h (before ++ (first, t) ∷ after) → IsPartlyPassed (interlinks a) walker last q h before ((first, t) ∷ after)
 

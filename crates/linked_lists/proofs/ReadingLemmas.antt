@@ -74,7 +74,6 @@ module _ {A Gen T : Type 0} {view : A → ArenaView Gen (Entry T)} {entry : A �
         (reads (entries.Item t) (map as_item after ++ ring_of h before) ring);
   }
 
--- Without an item, none is read.
 module _ {A Gen T : Type 0} {view : A → ArenaView Gen (Entry T)} {entry : A → ℕ → Option (Gen × Entry T)} (state : (a : A) → ArenaState (view a) (entry a)) (interlinks : A → LinkMap) {P : Type 0} (key : P → ℕ × Gen) (a : A) (p : P) (no : IsItem (entry a) (key p) → ⊥) where
   absent : (h : ℕ × Gen) (t : T) (before after : List (Item Gen T)) → IsList state interlinks a h (before ++ (key p, t) ∷ after) → ⊥
   absent h t before after is = no (record { value = t; stored = item_of state interlinks a h (key p) t before after is })
@@ -85,7 +84,6 @@ module _ {A Gen T : Type 0} {view : A → ArenaView Gen (Entry T)} {entry : A �
   pub no_prev : ReadsPrev state interlinks key a p None
   no_prev = record { none = λ no. refl; prev = λ h t before after is. absurd (absent h t before after is) }
 
--- The link before a head is the last one of its list.
 module _ {A Gen T : Type 0} {view : A → ArenaView Gen (Entry T)} {entry : A → ℕ → Option (Gen × Entry T)} (state : (a : A) → ArenaState (view a) (entry a)) (interlinks : A → LinkMap) where
   pub ends_valid : (a : A) (h l : ℕ × Gen) → EachInList state interlinks a → IsHandle (entry a) h → EndsList state interlinks a h l → IsValid (entry a) l
   ends_valid a h l each head last =

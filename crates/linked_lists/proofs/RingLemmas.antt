@@ -1,4 +1,4 @@
--- Rings in an arena of links: rotation and neighbors.
+-- Rotation and neighbors of rings.
 use Rattle.std.proofs.Common.{◌≡◌, ℕ, List, [], ◌∷◌, ◌++◌, Option, Some, ap, ◌∙◌}
 use Rattle.std.specs.Option.{option_map, option_and_then}
 use Rattle.chain_laws.specs.Chains.{LinkMap, cyclic, next_of, next_in, prev_of, prev_in, first_or, last_or}

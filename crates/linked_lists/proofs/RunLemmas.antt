@@ -1,4 +1,4 @@
--- The effect on lists of moving a run of items behind another link.
+-- Moves of a run of items behind another link.
 use Rattle.std.proofs.Common.{◌≡◌, ◌≢◌, ℕ, inl, inr, ⊎_elim, List, [], ◌∷◌, ◌++◌, map, Option, None, Some, refl, sym, ap, ◌∙◌, subst, append_assoc}
 use Rattle.std.specs.Prelude.{is_some, IfNone}
 use Rattle.std.specs.Option.{option_map}
@@ -43,7 +43,6 @@ module _ {Gen V : Type 0} where
       let same : end.1.0 ≡ z = one_some (sym (ap last_key end.2 ∙ last_is end.0 end.1) ∙ last) in
       subst (λ (l : List (Item Gen V)). IsMember (indexes l) z.0) (sym end.2) (among-right end.0 (end.1 ∷ []) z.0 (inl (ap (λ (q : ℕ × Gen). q.0) same)))
 
--- A run of a ring is moved behind the link of `l` in another ring.
 module _ {A Gen V : Type 0} {view : A → ArenaView Gen V} {entry : A → ℕ → Option (Gen × V)} (state : (a : A) → ArenaState (view a) (entry a)) (interlinks : A → LinkMap)
     (old new : A) (l f z : ℕ × Gen) (splices : Splices (interlinks old) (interlinks new) l.0 f.0 z.0) (same : entry new ≡ entry old) where
   module _ (run y : List (Item Gen V)) (ends : IsRun (indexes run) f.0 z.0) (is : IsRing state interlinks old (run ++ y)) (apart : IsMember (indexes (run ++ y)) l.0 → ⊥) where

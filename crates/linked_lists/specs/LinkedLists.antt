@@ -1,5 +1,4 @@
--- Linked lists in an arena of links: what is a list, and what the calls of `LinkedLists` read and
--- change.
+-- Lists, and what their calls read and change.
 use Rattle.std.specs.Prelude.{◌≡◌, ◌≢◌, ◌↔◌, ℕ, suc, ◌+◌, Bool, List, [], ◌∷◌, ◌++◌, map, length, IsSome, IfSome, OnErr, Option, None, Some, Result, Ok, Err}
 use Rattle.std.specs.Option.{option_map}
 use Rattle.std.specs.Borrow.{Bor}
@@ -16,60 +15,58 @@ use Rattle.chain_lists.specs.Lists.{Item, indexes, IsRing}
 use Rattle.linked_lists.specs.declared.entry.Entry.{Entry}
 use Rattle.linked_lists.specs.declared.entry.Entry.TheVariants as entries
 
--- The pointer is none of these.
+-- `k` is none of these.
 abbrev pub IsNoneOf : {Gen : Type 0} → List (ℕ × Gen) → ℕ × Gen → Type 0
 IsNoneOf [] k = Unit {0}
 IsNoneOf (h ∷ hs) k = (k ≢ h) × IsNoneOf hs k
 
--- The view after the entries at these indexes are removed, one after another.
+-- The view after removals at these indexes, in order.
 abbrev pub view_after_removals : {Gen V : Type 0} → (Gen → Gen) → ArenaView Gen V → List ℕ → ArenaView Gen V
 view_after_removals following s [] = s
 view_after_removals following s (i ∷ rest) = view_after_removals following (view_after_removal following s i) rest
 
 module _ {Gen T : Type 0} where
-  -- The entry of an item, and the ring of a list: its head, then its items.
+  -- The entry of an item; the ring of a list, head first.
   abbrev pub as_item : Item Gen T → Item Gen (Entry T)
   as_item e = (e.0, entries.Item e.1)
 
   abbrev pub ring_of : ℕ × Gen → List (Item Gen T) → List (Item Gen (Entry T))
   ring_of h items = (h, entries.Head) ∷ map as_item items
 
-  -- The pointers of items.
   abbrev pub pointers_of : List (Item Gen T) → List (ℕ × Gen)
   pointers_of items = map (λ e. e.0) items
 
-  -- A range of items, from `first` to `last`.
+  -- The range is from `first` to `last`.
   abbrev pub HasEnds : List (Item Gen T) → (first last : ℕ × Gen) → Type 0
   HasEnds range first last = (first_key range ≡ Some first) × (last_key range ≡ Some last)
 
-  -- `h` is the handle of a list.
+  -- `h` is a handle.
   abbrev pub IsHandle : (ℕ → Option (Gen × Entry T)) → ℕ × Gen → Type 0
   IsHandle entry h = entry h.0 ≡ Some (h.1, entries.Head)
 
-  -- `p` is the pointer of an item with the value `t`.
+  -- `p` is an item with the value `t`.
   abbrev pub HasItem : (ℕ → Option (Gen × Entry T)) → ℕ × Gen → T → Type 0
   HasItem entry p t = entry p.0 ≡ Some (p.1, entries.Item t)
 
-  -- `p` is the pointer of an item.
+  -- `p` is an item.
   pub record IsItem (entry : ℕ → Option (Gen × Entry T)) (p : ℕ × Gen) : Type 0 where
     pub value : T
     pub stored : HasItem entry p value
 
-  -- `get`: the value of `p` is read, if `p` is an item.
+  -- `get`: the value of `p`.
   abbrev pub ReadsValue : (ℕ → Option (Gen × Entry T)) → ℕ × Gen → Option (Bor T) → Type 0
   ReadsValue entry p result = record {
     some : IsSome result ↔ IsItem entry p;
     value : IfSome result (λ t. HasItem entry p t.now);
   }
 
--- An arena is seen by its state and its interlinks.
 module _ {A Gen T : Type 0} {view : A → ArenaView Gen (Entry T)} {entry : A → ℕ → Option (Gen × Entry T)} (state : (a : A) → ArenaState (view a) (entry a)) (interlinks : A → LinkMap) where
   module _ (arena : A) where
-    -- The list with the handle `h` has these items, in order.
+    -- The list of `h` is these items, in order.
     abbrev pub IsList : ℕ × Gen → List (Item Gen T) → Type 0
     IsList h items = IsRing state interlinks arena (ring_of h items)
 
-    -- The index is that of a list's handle or of one of its items.
+    -- The index is that of a handle or item of a list.
     pub record IsInList (i : ℕ) : Type 0 where
       pub handle : ℕ × Gen
       pub items : List (Item Gen T)
@@ -80,22 +77,21 @@ module _ {A Gen T : Type 0} {view : A → ArenaView Gen (Entry T)} {entry : A �
     abbrev pub EachInList : Type 0
     EachInList = (i : ℕ) → IsSome (entry arena i) → IsInList i
 
-    -- The item of `p` is in a list, between others.
+    -- `p` is in a list.
     pub record HasPlace (p : ℕ × Gen) (t : T) : Type 0 where
       pub handle : ℕ × Gen
       pub before : List (Item Gen T)
       pub after : List (Item Gen T)
       pub list : IsList handle (before ++ (p, t) ∷ after)
 
-    -- Each handle has a list, each item is in a list, and lists that share an index are the same.
+    -- Each handle has a list, each item is in one, and lists share no index.
     pub record AllInLists : Type 0 where
       pub lists : (h : ℕ × Gen) → IsHandle (entry arena) h → (items : List (Item Gen T)) × IsList h items
       pub items : (p : ℕ × Gen) (t : T) → HasItem (entry arena) p t → HasPlace p t
       pub once : (h k : ℕ × Gen) (xs ys : List (Item Gen T)) (i : ℕ) → IsList h xs → IsList k ys
           → IsMember (indexes (ring_of h xs)) i → IsMember (indexes (ring_of k ys)) i → (h ≡ k) × (xs ≡ ys)
 
-    -- `first` to `last` are items of one list, each directly after the one before it, and `q` is
-    -- none of them.
+    -- `first` to `last` are successive items of one list, none of them `q`.
     pub record IsRangeWithout (first last q : ℕ × Gen) : Type 0 where
       pub handle : ℕ × Gen
       pub before : List (Item Gen T)
@@ -113,16 +109,16 @@ module _ {A Gen T : Type 0} {view : A → ArenaView Gen (Entry T)} {entry : A �
       pub list : IsList h (before ++ (p, value) ∷ after)
 
   module _ (old new : A) where
-    -- Every list whose handle is none of these keeps its items.
+    -- Lists with other handles keep their items.
     abbrev pub KeepsOthers : List (ℕ × Gen) → Type 0
     KeepsOthers hs = (k : ℕ × Gen) (items : List (Item Gen T)) → IsNoneOf hs k → IsList old k items → IsList new k items
 
-    -- The list of `h` comes to have these items, and every other list keeps its items.
+    -- The list of `h` gets these items, others keep theirs.
     pub record Becomes (h : ℕ × Gen) (items : List (Item Gen T)) : Type 0 where
       pub list : IsList new h items
       pub others : KeepsOthers (h ∷ [])
 
-    -- `e` is inserted at the start or the end of the list of `h`, or directly after or before `p`.
+    -- `e` is inserted at the start or end of `h`, or beside `p`.
     abbrev pub GrowsAtStart : ℕ × Gen → Item Gen T → Type 0
     GrowsAtStart h e = (items : List (Item Gen T)) → IsList old h items → Becomes h (e ∷ items)
 
@@ -141,18 +137,18 @@ module _ {A Gen T : Type 0} {view : A → ArenaView Gen (Entry T)} {entry : A �
       pub head : IsEntryInserted state old entries.Head h new
       pub others : KeepsOthers []
 
-    -- The item `e` is inserted, and its list becomes what `grows` states.
+    -- `e` is inserted as `grows` states.
     pub record IsItemAdded (grows : Item Gen T → Type 0) (e : Item Gen T) : Type 0 where
       pub list : grows e
       pub item : IsEntryInserted state old (entries.Item e.1) e.0 new
 
-    -- The value of `p` becomes `t`; all pointers and the order of each list are unchanged.
+    -- The value of `p` becomes `t`; pointers and orders are unchanged.
     pub record ValueBecomes (p : ℕ × Gen) (t : T) : Type 0 where
       pub list : (h : ℕ × Gen) (s : T) (before after : List (Item Gen T)) → IsList old h (before ++ (p, s) ∷ after) → Becomes h (before ++ (p, t) ∷ after)
       pub view_after : view new ≡ view_with_value (view old) p.0 (entries.Item t)
       pub links : interlinks new ≡ interlinks old
 
-    -- The item of `p`, with the value `t`, leaves its list and is removed.
+    -- The item `p` is removed.
     pub record LeavesList {P I W : Type 0} (pointers : PointerKind P I Gen W) (p : ℕ × Gen) (t : T) : Type 0 where
       pub removed : IsEntryRemoved state pointers old p.0 p.1 (entries.Item t) new
       pub list : (h : ℕ × Gen) (before after : List (Item Gen T)) → IsList old h (before ++ (p, t) ∷ after) → Becomes h (before ++ after)
@@ -160,13 +156,13 @@ module _ {A Gen T : Type 0} {view : A → ArenaView Gen (Entry T)} {entry : A �
       pub entries : (i : ℕ) → i ≢ p.0 → entry new i ≡ entry old i
       pub size : count (view old) ≡ count (view new) + 1
 
-    -- The entries at these indexes are removed, one after another, and all others stay.
+    -- Exactly the entries at these indexes are removed.
     pub record AreEntriesRemoved (following : Gen → Gen) (removed : List ℕ) : Type 0 where
       pub view_after : view new ≡ view_after_removals following (view old) removed
       pub gone : (i : ℕ) → IsMember removed i → entry new i ≡ None
       pub entries : (i : ℕ) → (IsMember removed i → ⊥) → entry new i ≡ entry old i
 
-    -- The items of the list of `h` are removed, from the first one on, and its head after them.
+    -- The items of `h` are removed in order, then its head.
     pub record IsListRemoved (following : Gen → Gen) (h : ℕ × Gen) (items : List (Item Gen T)) : Type 0 where
       pub list : IsList old h items
       pub removed : AreEntriesRemoved following (indexes items ++ h.0 ∷ [])
@@ -176,8 +172,7 @@ module _ {A Gen T : Type 0} {view : A → ArenaView Gen (Entry T)} {entry : A �
     abbrev pub KeepsEntries : Type 0
     KeepsEntries = (entry new ≡ entry old) × (view new ≡ view old)
 
-    -- The item of `p` leaves its list. Then it is inserted where `place` states: the handle, the
-    -- items of that list without `p`, and its items with `p`.
+    -- `p` is moved; `place` relates handle, item, and list without and with it.
     pub record IsItemMoved (p : ℕ × Gen) (place : ℕ × Gen → Item Gen T → List (Item Gen T) → List (Item Gen T) → Type 0) : Type 0 where
       pub within : (h : ℕ × Gen) (t : T) (before after items : List (Item Gen T)) → IsList old h (before ++ (p, t) ∷ after)
           → place h (p, t) (before ++ after) items → Becomes h items
@@ -185,8 +180,7 @@ module _ {A Gen T : Type 0} {view : A → ArenaView Gen (Entry T)} {entry : A �
           → place k (p, t) others items → IsList new h (before ++ after) × IsList new k items × KeepsOthers (h ∷ k ∷ [])
       pub entries : KeepsEntries
 
-    -- The range from `first` to `last` leaves its list. Then it is inserted where `place` states: the
-    -- handle, the range, the items of that list without it, and its items with it.
+    -- A range is moved; `place` relates handle, range, and list without and with it.
     pub record IsRangeMoved (first last : ℕ × Gen) (place : ℕ × Gen → List (Item Gen T) → List (Item Gen T) → List (Item Gen T) → Type 0) : Type 0 where
       pub within : (h : ℕ × Gen) (before range after items : List (Item Gen T)) → HasEnds range first last → IsList old h (before ++ range ++ after)
           → place h range (before ++ after) items → Becomes h items
@@ -194,7 +188,7 @@ module _ {A Gen T : Type 0} {view : A → ArenaView Gen (Entry T)} {entry : A �
           → IsList old k others → place k range others items → IsList new h (before ++ after) × IsList new k items × KeepsOthers (h ∷ k ∷ [])
       pub entries : KeepsEntries
 
-    -- The items of the list of `k` are moved behind those of the list of `h`.
+    -- The items of `k` are moved behind those of `h`.
     pub record AreJoined (h k : ℕ × Gen) : Type 0 where
       pub lists : (xs ys : List (Item Gen T)) → IsList old h xs → IsList old k ys → IsList new h (xs ++ ys) × IsList new k []
       pub others : KeepsOthers (h ∷ k ∷ [])
@@ -207,7 +201,7 @@ module _ {A Gen T : Type 0} {view : A → ArenaView Gen (Entry T)} {entry : A �
       pub head : IsEntryInserted state old entries.Head q new
 
 module _ {Gen T : Type 0} where
-  -- Where an item is moved: to the start or the end of the list of `h`, or directly after `q`.
+  -- An item is at the start or end of `h`, or directly after `q`.
   abbrev pub AtStart : ℕ × Gen → ℕ × Gen → Item Gen T → List (Item Gen T) → List (Item Gen T) → Type 0
   AtStart h k e others items = (k ≡ h) × (items ≡ e ∷ others)
 
@@ -217,7 +211,7 @@ module _ {Gen T : Type 0} where
   abbrev pub DirectlyAfter : ℕ × Gen → ℕ × Gen → Item Gen T → List (Item Gen T) → List (Item Gen T) → Type 0
   DirectlyAfter q k e others items = (s : T) × (x : List (Item Gen T)) × (y : List (Item Gen T)) × (others ≡ x ++ (q, s) ∷ y) × (items ≡ x ++ (q, s) ∷ e ∷ y)
 
-  -- Where a range is moved: to the start or the end of the list of `h`, or directly after `q`.
+  -- A range is at the start or end of `h`, or directly after `q`.
   abbrev pub RangeAtStart : ℕ × Gen → ℕ × Gen → List (Item Gen T) → List (Item Gen T) → List (Item Gen T) → Type 0
   RangeAtStart h k range others items = (k ≡ h) × (items ≡ range ++ others)
 
@@ -229,7 +223,7 @@ module _ {Gen T : Type 0} where
 
 module _ {A Gen T : Type 0} {view : A → ArenaView Gen (Entry T)} {entry : A → ℕ → Option (Gen × Entry T)} (state : (a : A) → ArenaState (view a) (entry a)) (interlinks : A → LinkMap) where
   module _ {P : Type 0} (key : P → ℕ × Gen) where
-    -- `first` and `last`: the first and the last item of the list of `h`, if `h` is a handle.
+    -- `first`, `last`: the first or last item of `h`.
     abbrev pub ReadsFirst : A → P → Option P → Type 0
     ReadsFirst arena h result = record {
       none : ¬ IsHandle (entry arena) (key h) → result ≡ None;
@@ -242,7 +236,7 @@ module _ {A Gen T : Type 0} {view : A → ArenaView Gen (Entry T)} {entry : A �
       last : (items : List (Item Gen T)) → IsList state interlinks arena (key h) items → option_map key result ≡ last_key items;
     }
 
-    -- `next` and `prev`: the item after `p` and the item before it, if `p` is an item.
+    -- `next`, `prev`: the item after or before `p`.
     abbrev pub ReadsNext : A → P → Option P → Type 0
     ReadsNext arena p result = record {
       none : ¬ IsItem (entry arena) (key p) → result ≡ None;
@@ -255,32 +249,31 @@ module _ {A Gen T : Type 0} {view : A → ArenaView Gen (Entry T)} {entry : A �
       prev : (h : ℕ × Gen) (t : T) (before after : List (Item Gen T)) → IsList state interlinks arena h (before ++ (key p, t) ∷ after) → option_map key result ≡ last_key before;
     }
 
-    -- `list_of`: the handle of the list of `p`, if `p` is an item.
+    -- `list_of`: the handle of the list of `p`.
     abbrev pub ReadsHandle : {H : Type 0} → (H → ℕ × Gen) → A → P → Option H → Type 0
     ReadsHandle handle_key arena p result = record {
       none : ¬ IsItem (entry arena) (key p) → result ≡ None;
       handle : (h : ℕ × Gen) (t : T) (before after : List (Item Gen T)) → IsList state interlinks arena h (before ++ (key p, t) ∷ after) → option_map handle_key result ≡ Some h;
     }
 
-    -- `walk`: the pointers are those of the items of the list of `h`.
+    -- `walk`: the pointers of the items of `h`.
     abbrev pub ListsItems : A → P → List P → Type 0
     ListsItems arena h pointers = (items : List (Item Gen T)) × IsList state interlinks arena (key h) items × (map key pointers ≡ pointers_of items)
 
-    -- `new_list`: an empty list is created, after a growth if the arena was full.
+    -- `new_list`: an empty list is created, after growth if needed.
     abbrev pub CreatesList : ℕ → A → Result P ReallocationError → A → Type 0
     CreatesList greatest old result new = record {
       outcome : IsGrowthResult (RefusesOneMore (view old)) (λ q. IsListStarted state interlinks old new (key q) × GrowsForOneMore greatest (view old) (view new)) result;
       err : OnErr result (new ≡ old);
     }
 
-    -- An insertion of `t`, after such a growth. `may`: the pointer is of the kind that is required.
+    -- `t` is inserted, after growth if needed, provided `may`.
     abbrev pub AddsItem : ℕ → (may : Type 0) → (grows : A → A → Item Gen T → Type 0) → A → T → Result P ChainInsertionError → A → Type 0
     AddsItem greatest may grows old t result new = record {
       outcome : IsInsertionResult may (RefusesOneMore (view old)) (λ q. IsItemAdded state interlinks old new (grows old new) (key q, t) × GrowsForOneMore greatest (view old) (view new)) result;
       err : OnErr result (new ≡ old);
     }
 
-    -- `push_front`, `push_back`, `insert_after` and `insert_before`.
     abbrev pub PushesFront : ℕ → A → P → T → Result P ChainInsertionError → A → Type 0
     PushesFront greatest old h t result new = AddsItem greatest (IsHandle (entry old) (key h)) (λ a b. GrowsAtStart state interlinks a b (key h)) old t result new
 
@@ -293,26 +286,24 @@ module _ {A Gen T : Type 0} {view : A → ArenaView Gen (Entry T)} {entry : A �
     abbrev pub InsertsBeforeItem : ℕ → A → P → T → Result P ChainInsertionError → A → Type 0
     InsertsBeforeItem greatest old p t result new = AddsItem greatest (IsItem (entry old) (key p)) (λ a b. GrowsBefore state interlinks a b (key p)) old t result new
 
-    -- `split_at`: the items from `p` on are moved to a new list, if `p` is an item.
+    -- `split_at`: the items from `p` on are moved to a new list.
     abbrev pub SplitsList : {H : Type 0} → (H → ℕ × Gen) → ℕ → A → P → Result (Option H) ReallocationError → A → Type 0
     SplitsList handle_key greatest old p (Ok None) new = (IsItem (entry old) (key p) → ⊥) × (new ≡ old)
     SplitsList handle_key greatest old p (Ok (Some h)) new =
         IsItem (entry old) (key p) × IsSplit state interlinks old new (key p) (handle_key h) × GrowsForOneMore greatest (view old) (view new)
     SplitsList handle_key greatest old p (Err why) new = IsItem (entry old) (key p) × RefusesOneMore (view old) why × (new ≡ old)
 
-  -- `replace`: the value of `p` becomes `t`, and the former one is returned, if `p` is an item.
+  -- `replace`: the value of `p` becomes `t`.
   abbrev pub ReplacesItem : A → ℕ × Gen → T → Option T → A → Type 0
   ReplacesItem old p t None new = (IsItem (entry old) p → ⊥) × (new ≡ old)
   ReplacesItem old p t (Some former) new = HasItem (entry old) p former × ValueBecomes state interlinks old new p t
 
-  -- `remove`: the item of `p` is removed and its value returned, if `p` is an item, and whether the
-  -- counter wrapped is reported.
+  -- `remove`: `p` is removed, and an overflow is reported.
   abbrev pub RemovesListItem : {P I W : Type 0} → PointerKind P I Gen W → A → P → InvalidationResult T → A → Type 0
   RemovesListItem pointers old p result new =
       ReportsOverflow pointers.wraps (view old).counter ((IsItem (entry old) (pointers.key p) → ⊥) × (new ≡ old)) (λ t. LeavesList state interlinks old new pointers (pointers.key p) t) result
 
-  -- `move_to_front` and `move_to_back`: the item of `p` is moved to the start or the end of the list
-  -- of `h`.
+  -- `move_to_front`, `move_to_back`: `p` is moved to the start or the end of `h`.
   abbrev pub MovesToFront : A → (p h : ℕ × Gen) → Option Unit → A → Type 0
   MovesToFront old p h None new = (IsItem (entry old) p × IsHandle (entry old) h → ⊥) × (new ≡ old)
   MovesToFront old p h (Some done) new = IsItem (entry old) p × IsHandle (entry old) h × IsItemMoved state interlinks old new p (AtStart h)
@@ -321,13 +312,11 @@ module _ {A Gen T : Type 0} {view : A → ArenaView Gen (Entry T)} {entry : A �
   MovesToBack old p h None new = (IsItem (entry old) p × IsHandle (entry old) h → ⊥) × (new ≡ old)
   MovesToBack old p h (Some done) new = IsItem (entry old) p × IsHandle (entry old) h × IsItemMoved state interlinks old new p (AtEnd h)
 
-  -- `move_after`: the item of `p` is moved directly behind the item of `q`, if these are two.
+  -- `move_after`: `p` is moved directly behind `q`, another item.
   abbrev pub MovesAfterItem : A → (p q : ℕ × Gen) → Option Unit → A → Type 0
   MovesAfterItem old p q None new = (IsItem (entry old) p × IsItem (entry old) q × (p ≢ q) → ⊥) × (new ≡ old)
   MovesAfterItem old p q (Some done) new = IsItem (entry old) p × IsItem (entry old) q × (p ≢ q) × IsItemMoved state interlinks old new p (DirectlyAfter q)
 
-  -- `move_range_to_front`, `move_range_to_back` and `move_range_after`: a range is moved to the start
-  -- or the end of the list of `h`, or directly behind the item of `q`.
   abbrev pub MovesRangeToFront : A → (first last h : ℕ × Gen) → Option Unit → A → Type 0
   MovesRangeToFront old first last h None new = (IsHandle (entry old) h → ⊥) × (new ≡ old)
   MovesRangeToFront old first last h (Some done) new = IsHandle (entry old) h × IsRangeMoved state interlinks old new first last (RangeAtStart h)
@@ -340,14 +329,12 @@ module _ {A Gen T : Type 0} {view : A → ArenaView Gen (Entry T)} {entry : A �
   MovesRangeAfter old first last q None new = (IsItem (entry old) q → ⊥) × (new ≡ old)
   MovesRangeAfter old first last q (Some done) new = IsItem (entry old) q × IsRangeMoved state interlinks old new first last (RangeAfter q)
 
-  -- `join`: the items of the list of `k` are moved behind those of the list of `h`, if these are
-  -- two lists.
+  -- `join`: the items of `k` are moved behind those of `h`, another list.
   abbrev pub JoinsLists : A → (h k : ℕ × Gen) → Option Unit → A → Type 0
   JoinsLists old h k None new = (IsHandle (entry old) h × IsHandle (entry old) k × (h ≢ k) → ⊥) × (new ≡ old)
   JoinsLists old h k (Some done) new = IsHandle (entry old) h × IsHandle (entry old) k × (h ≢ k) × AreJoined state interlinks old new h k
 
-  -- `remove_list`: the list of `h` is removed and the number of its items returned, if `h` is a
-  -- handle, and whether the counter wrapped is reported.
+  -- `remove_list`: `h` is removed, and an overflow is reported.
   abbrev pub RemovesList : (Gen → Bool) → (Gen → Gen) → A → ℕ × Gen → InvalidationResult ℕ → A → Type 0
   RemovesList wraps following old h result new = (items : List (Item Gen T)) × ReportsOverflow (wraps_within wraps following (suc (length items))) (view old).counter ((IsHandle (entry old) h → ⊥) × (new ≡ old))
       (λ n. IsListRemoved state interlinks old new following h items × (n ≡ length items)) result

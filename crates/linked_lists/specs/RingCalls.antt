@@ -1,4 +1,3 @@
--- What the calls on rings below `LinkedLists` read and change.
 use Rattle.std.specs.Prelude.{◌≡◌, ◌↔◌, ℕ, Bool, IsTrue, IfSome, List, [], ◌∷◌, ◌++◌, length, Option, None, Some}
 use Rattle.std.specs.Option.{option_map}
 use Rattle.chain_laws.specs.Chains.{LinkMap, IsMember}
@@ -17,7 +16,7 @@ value_in None = None
 value_in (Some entries.Head) = None
 value_in (Some (entries.Item t)) = Some t
 
--- The pointer is returned exactly if it is the pointer of an item.
+-- The pointer, if it is that of an item.
 abbrev pub KeepsItemOnly : {Gen T P : Type 0} → (ℕ → Option (Gen × Entry T)) → (P → ℕ × Gen) → Option P → Option P → Type 0
 KeepsItemOnly entry key None result = result ≡ None
 KeepsItemOnly entry key (Some p) result = record {
@@ -25,13 +24,13 @@ KeepsItemOnly entry key (Some p) result = record {
   none : (IsItem entry (key p) → ⊥) → result ≡ None;
 }
 
--- A head on the walk from `p` is found, if there is one.
+-- A head on the walk from `p`, if there is one.
 abbrev pub FindsHead : {Gen T P : Type 0} → (ℕ → Option (Gen × Entry T)) → LinkMap → (P → ℕ × Gen) → ℕ × Gen → Option P → Type 0
 FindsHead {Gen} entry links key p None = IsValid entry p → (walk : List ℕ) (k : ℕ × Gen) → IsWalk links p.0 walk → IsHandle entry k → IsMember walk k.0 → ⊥
 FindsHead entry links key p (Some h) = IsHandle entry (key h) × (walk : List ℕ) × IsWalk links p.0 walk × IsMember walk (key h).0
 
 module _ {A Gen V : Type 0} {view : A → ArenaView Gen V} {entry : A → ℕ → Option (Gen × V)} (state : (a : A) → ArenaState (view a) (entry a)) (interlinks : A → LinkMap) {P : Type 0} (key : P → ℕ × Gen) where
-  -- The link after `p` in its ring, and the link before it.
+  -- The link after or before `p` in its ring.
   abbrev pub ReadsNextLink : A → P → Option P → Type 0
   ReadsNextLink arena p result = (v : V) (others : List (Item Gen V)) → IsRing state interlinks arena ((key p, v) ∷ others) → option_map key result ≡ first_key (others ++ (key p, v) ∷ [])
 
@@ -39,7 +38,7 @@ module _ {A Gen V : Type 0} {view : A → ArenaView Gen V} {entry : A → ℕ �
   ReadsPrevLink arena p result = (v : V) (others : List (Item Gen V)) → IsRing state interlinks arena ((key p, v) ∷ others) → option_map key result ≡ last_key ((key p, v) ∷ others)
 
 module _ {A Gen T : Type 0} {view : A → ArenaView Gen (Entry T)} {entry : A → ℕ → Option (Gen × Entry T)} (state : (a : A) → ArenaState (view a) (entry a)) (interlinks : A → LinkMap) where
-  -- `l` is the last link of the list of `h`.
+  -- `l` is the last link of `h`.
   abbrev pub EndsList : A → (h l : ℕ × Gen) → Type 0
   EndsList arena h l = (items : List (Item Gen T)) → IsList state interlinks arena h items → Some l ≡ last_key (ring_of h items)
 
@@ -47,8 +46,7 @@ module _ {A Gen T : Type 0} {view : A → ArenaView Gen (Entry T)} {entry : A �
   abbrev pub EndsListOf : A → (p l : ℕ × Gen) → Type 0
   EndsListOf arena p l = (h : ℕ × Gen) (t : T) (before after : List (Item Gen T)) → IsList state interlinks arena h (before ++ (p, t) ∷ after) → Some l ≡ last_key (ring_of h (before ++ (p, t) ∷ after))
 
-  -- The items of the list of `h` are removed, from the first one on. Their number is returned, and
-  -- whether the counter wrapped.
+  -- The items of `h` are removed: how many, and whether the counter wrapped.
   pub record EmptiesList (wraps : Gen → Bool) (following : Gen → Gen) (old : A) (h : ℕ × Gen) (n : ℕ × Bool) (new : A) : Type 0 where
     pub items : List (Item Gen T)
     pub was : IsList state interlinks old h items

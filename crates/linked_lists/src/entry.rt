@@ -1,4 +1,4 @@
-//! The values that linked lists store in an arena.
+//! The values of links.
 
 ghost use Rattle.std.specs.Prelude.{◌≡◌, Some};
 ghost use Rattle.std.specs.Borrow.{LendsIf, sem};
@@ -9,19 +9,17 @@ ghost use Rattle.linked_lists.specs.RingCalls.{value_in};
 
 use arena_ptr::InvalidationResult;
 
-/// The value of a link: the head of a list, or an item.
+/// The value of a link.
 #[derive(Drop)]
 pub enum Entry<T: Drop> {
-    /// The head of a list, at its handle. It is before the first item and after the last one.
+    /// At a handle, before the first item and after the last one.
     Head,
-    /// An item with its value.
     Item(T),
 }
 
 impl<T: Drop> Entry<T> {
     ghost use Rattle.linked_lists.specs.contracts.entry.Entry.{the_row};
 
-    // Returns a mutable reference to the value of an item, and `None` for a head.
     pub(crate) fn value_mut(&mut self) -> Option<&mut T>
         ensures* writes_back { sem 𝓛 (LendsIf (the_row T.row) T.row self.entry result
             (λ w. entries.Item w) self.old) }
@@ -34,7 +32,6 @@ impl<T: Drop> Entry<T> {
     }
 }
 
-// Returns the value of an item, and `None` for a head.
 pub(crate) fn value_of<T: Drop>(entry: Option<Entry<T>>) -> Option<T>
     ensures { result ≡ value_in entry }
 {
@@ -45,7 +42,6 @@ pub(crate) fn value_of<T: Drop>(entry: Option<Entry<T>>) -> Option<T>
     }
 }
 
-// Returns the removed value of an item, and `InvalidPtr` for a head.
 pub(crate) fn removed_value<T: Drop>(removed: InvalidationResult<Entry<T>>) -> InvalidationResult<T>
     ensures { result ≡ invalidation_result (is_overflow_result removed)
         (value_in (value_within removed)) }

@@ -1,7 +1,4 @@
-//! Doubly linked lists that share one arena of links.
-//!
-//! Each list has a handle, which stays valid while the list exists. Items are inserted, removed and
-//! moved within their list or to another one in O(1), and pointers to them stay.
+//! Doubly linked lists in one arena, with O(1) insertion, removal and moves between lists.
 #![tactic(auto)]
 
 mod entry;

@@ -1,4 +1,4 @@
-//! Linked lists, whose links are all stored in one arena.
+//! Linked lists in one arena.
 
 ghost use Rattle.std.specs.Prelude.{◌≡◌, ◌↔◌, ◌+◌, List, [], ◌∷◌, ◌++◌, IsTrue, IsSome, IfSome, IfNone, IfOk, OnOk, OnSome, None, Some};
 ghost use Rattle.std.specs.Borrow.{LendsSo, sem};
@@ -26,15 +26,20 @@ use std::alloc::{AllocError, Global};
 use std::marker::{Model, PhantomData};
 use std::mem;
 
-/// Doubly linked lists in one arena. Each list has a handle and items.
+/// Doubly linked lists in one arena, each with a handle and items.
 ///
-/// Creating a list returns its handle, which is valid while the list exists, whatever happens to
-/// its items. Inserting an item returns its pointer, which identifies the item until it is removed.
-/// The pointer of an item is no handle, and a handle is no item. A handle or pointer that was
-/// removed is not valid, until the generation counter of the arena wraps.
+/// A handle is valid while its list exists. A pointer identifies its item until it is removed,
+/// whatever list it is in; it is no handle. Removed handles and pointers are not valid until the
+/// generation counter wraps, which removals report as `GenerationOverflow`. Moves and removals keep
+/// all other pointers and the order of the other items; removals keep the capacity.
 ///
-/// Contracts see the arena. A list is the list of its items (`IsList`), each with its pointer's
-/// index and generation.
+/// Calls return `None`, `InvalidPtr` or `FailedLinkRequirement` if `p` or `q` is not an item, or
+/// `h` or `k` is not a handle. They return `BeyondMaxCapacity` if growth would exceed the maximum,
+/// and `AllocError` if it would exceed the greatest index or an allocation failed. A refused call
+/// changes nothing and drops the value it was given.
+///
+/// Contracts see the arena. A list is the list of its items (`IsList`), each with its index and
+/// generation.
 #[derive(Drop)]
 pub struct LinkedLists<P: PtrKey, T: Drop, A: ChainArenaTrait<P, Entry<T>> + Drop> {
     arena: A,
@@ -54,7 +59,7 @@ impl<P: PtrKey, T: Drop, A: ChainArenaTrait<P, Entry<T>> + Drop> Model for Linke
 impl<P: PtrKey, T: Drop, A: ChainArenaTrait<P, Entry<T>> + Drop> LinkedLists<P, T, A> {
     ghost use Rattle.linked_lists.specs.contracts.linked_lists.LinkedLists.{the_row};
 
-    /// Creates an empty collection of lists. It does not allocate.
+    /// Creates an empty collection without allocating.
     pub fn new(alloc: Global) -> Self
         ensures new { IsNew P.Gen.first (A.view result) }
         ensures capacity { (A.view result).capacity ≡ 0 }
@@ -66,10 +71,9 @@ impl<P: PtrKey, T: Drop, A: ChainArenaTrait<P, Entry<T>> + Drop> LinkedLists<P, 
         }
     }
 
-    /// Replaces the arena, whose rings are the lists, and returns the former one.
+    /// Replaces the arena, for calls that lists do not have, and returns the former one.
     ///
-    /// Each link of the new arena has to be in a ring with one head, as those of the former one are.
-    /// So an arena can be taken out, for a call that lists do not have, and put back.
+    /// Each link of the new arena must be in a ring with one head.
     pub fn replace_arena(&mut self, arena: A) -> A
         requires { EachInList A.state A.interlinks arena }
         ensures new { self.new ≡ arena }
@@ -79,7 +83,7 @@ impl<P: PtrKey, T: Drop, A: ChainArenaTrait<P, Entry<T>> + Drop> LinkedLists<P, 
         mem::replace(&mut self.arena, arena)
     }
 
-    /// Returns the number of items and of lists, taken together: each list has a head.
+    /// Returns the number of items plus the number of lists.
     pub fn len(&self) -> usize
         ensures { CountsEntries (A.view self.now) result }
     {
@@ -93,7 +97,7 @@ impl<P: PtrKey, T: Drop, A: ChainArenaTrait<P, Entry<T>> + Drop> LinkedLists<P, 
         self.arena.is_empty()
     }
 
-    /// Returns the number of items and lists that can be held without growing.
+    /// Returns the number of items and lists that fit without growing.
     pub fn capacity(&self) -> usize
         ensures { ReportsCapacity (A.view self.now) P.Inx.greatest result }
     {
@@ -107,16 +111,12 @@ impl<P: PtrKey, T: Drop, A: ChainArenaTrait<P, Entry<T>> + Drop> LinkedLists<P, 
         self.arena.max_capacity()
     }
 
-    /// Reserves capacity for at least `additional` more items and lists.
-    ///
-    /// Does nothing if the capacity suffices.
+    /// Reserves capacity for at least `additional` more items and lists, if it does not suffice.
     ///
     /// # Errors
     ///
-    /// - `BeyondMaxCapacity`: growth would exceed the maximum.
-    /// - `AllocError`: growth would exceed the greatest index, or an allocation failed.
-    ///
-    /// On error, nothing changes.
+    /// - `BeyondMaxCapacity`
+    /// - `AllocError`
     pub fn reserve(&mut self, additional: usize) -> Result<(), ReallocationError>
         ensures reserves { ReservesMore A.state A.interlinks P.Inx.greatest additional self.old
             result self.new }
@@ -126,10 +126,7 @@ impl<P: PtrKey, T: Drop, A: ChainArenaTrait<P, Entry<T>> + Drop> LinkedLists<P, 
         reserve(&mut self.arena, additional)
     }
 
-    /// States that each handle has a list, each item is in exactly one list, and lists share no
-    /// item.
-    ///
-    /// Has no effect.
+    /// States that each handle has a list and each item is in exactly one list; has no effect.
     pub fn all_in_lists(&self)
         ensures { AllInLists A.state A.interlinks self.now }
     {
@@ -150,7 +147,7 @@ impl<P: PtrKey, T: Drop, A: ChainArenaTrait<P, Entry<T>> + Drop> LinkedLists<P, 
         self.get(p).is_some()
     }
 
-    /// Returns a reference to the value of an item, or `None` if `p` is not an item.
+    /// Returns the value of an item.
     pub fn get(&self, p: P) -> Option<&T>
         ensures { ReadsValue (A.entry self.now) (P.key p) result }
     {
@@ -163,7 +160,6 @@ impl<P: PtrKey, T: Drop, A: ChainArenaTrait<P, Entry<T>> + Drop> LinkedLists<P, 
         }
     }
 
-    // Returns the pointer if it is the pointer of an item, and `None` otherwise.
     fn item_only(&self, pointer: Option<P>) -> Option<P>
         ensures { KeepsItemOnly (A.entry self.now) P.key pointer result }
     {
@@ -173,7 +169,7 @@ impl<P: PtrKey, T: Drop, A: ChainArenaTrait<P, Entry<T>> + Drop> LinkedLists<P, 
         }
     }
 
-    // Returns the pointer of the last link of a list: its last item, or its head if it is empty.
+    // The last item, or the head of an empty list.
     fn last_link(&self, h: ListHandle<P>) -> P
         requires { IsHandle (A.entry self.now) (P.key h.head) }
         ensures valid { IsValid (A.entry self.now) (P.key result) }
@@ -185,8 +181,7 @@ impl<P: PtrKey, T: Drop, A: ChainArenaTrait<P, Entry<T>> + Drop> LinkedLists<P, 
         }
     }
 
-    /// Returns the pointer of the first item of a list, or `None` if the list is empty or `h` is
-    /// not a handle.
+    /// Returns the first item of a list, or `None` if it is empty.
     pub fn first(&self, h: ListHandle<P>) -> Option<P>
         ensures { ReadsFirst A.state A.interlinks P.key self.now h.head result }
     {
@@ -196,8 +191,7 @@ impl<P: PtrKey, T: Drop, A: ChainArenaTrait<P, Entry<T>> + Drop> LinkedLists<P, 
         self.item_only(next_link(&self.arena, h.head))
     }
 
-    /// Returns the pointer of the last item of a list, or `None` if the list is empty or `h` is not
-    /// a handle.
+    /// Returns the last item of a list, or `None` if it is empty.
     pub fn last(&self, h: ListHandle<P>) -> Option<P>
         ensures { ReadsLast A.state A.interlinks P.key self.now h.head result }
     {
@@ -207,8 +201,7 @@ impl<P: PtrKey, T: Drop, A: ChainArenaTrait<P, Entry<T>> + Drop> LinkedLists<P, 
         self.item_only(prev_link(&self.arena, h.head))
     }
 
-    /// Returns the pointer of the item after an item, or `None` if it is the last one or `p` is not
-    /// an item.
+    /// Returns the item after `p`, or `None` if `p` is the last one.
     pub fn next(&self, p: P) -> Option<P>
         ensures { ReadsNext A.state A.interlinks P.key self.now p result }
     {
@@ -218,8 +211,7 @@ impl<P: PtrKey, T: Drop, A: ChainArenaTrait<P, Entry<T>> + Drop> LinkedLists<P, 
         self.item_only(next_link(&self.arena, p))
     }
 
-    /// Returns the pointer of the item before an item, or `None` if it is the first one or `p` is
-    /// not an item.
+    /// Returns the item before `p`, or `None` if `p` is the first one.
     pub fn prev(&self, p: P) -> Option<P>
         ensures { ReadsPrev A.state A.interlinks P.key self.now p result }
     {
@@ -229,9 +221,7 @@ impl<P: PtrKey, T: Drop, A: ChainArenaTrait<P, Entry<T>> + Drop> LinkedLists<P, 
         self.item_only(prev_link(&self.arena, p))
     }
 
-    /// Returns the handle of the list that an item is in, or `None` if `p` is not an item.
-    ///
-    /// Takes as many steps as there are items from `p` on.
+    /// Returns the handle of the list of `p`, in as many steps as there are items from `p` on.
     pub fn list_of(&self, p: P) -> Option<ListHandle<P>>
         ensures { ReadsHandle A.state A.interlinks P.key (λ h. P.key h.head) self.now p result }
     {
@@ -245,10 +235,8 @@ impl<P: PtrKey, T: Drop, A: ChainArenaTrait<P, Entry<T>> + Drop> LinkedLists<P, 
     ///
     /// # Errors
     ///
-    /// - `BeyondMaxCapacity`: growth would exceed the maximum.
-    /// - `AllocError`: growth would exceed the greatest index, or an allocation failed.
-    ///
-    /// On error, nothing changes.
+    /// - `BeyondMaxCapacity`
+    /// - `AllocError`
     pub fn new_list(&mut self) -> Result<ListHandle<P>, ReallocationError>
         ensures outcome { CreatesList A.state A.interlinks (λ h. P.key h.head) P.Inx.greatest
             self.old result self.new }
@@ -262,11 +250,9 @@ impl<P: PtrKey, T: Drop, A: ChainArenaTrait<P, Entry<T>> + Drop> LinkedLists<P, 
     ///
     /// # Errors
     ///
-    /// - `FailedLinkRequirement`: `h` is not a handle.
-    /// - `BeyondMaxCapacity`: growth would exceed the maximum.
-    /// - `AllocError`: growth would exceed the greatest index, or an allocation failed.
-    ///
-    /// On error, nothing changes and the value is dropped.
+    /// - `FailedLinkRequirement`
+    /// - `BeyondMaxCapacity`
+    /// - `AllocError`
     pub fn push_front(&mut self, h: ListHandle<P>, value: T) -> Result<P, ChainInsertionError>
         ensures outcome { PushesFront A.state A.interlinks P.key P.Inx.greatest self.old h.head value
             result self.new }
@@ -283,11 +269,9 @@ impl<P: PtrKey, T: Drop, A: ChainArenaTrait<P, Entry<T>> + Drop> LinkedLists<P, 
     ///
     /// # Errors
     ///
-    /// - `FailedLinkRequirement`: `h` is not a handle.
-    /// - `BeyondMaxCapacity`: growth would exceed the maximum.
-    /// - `AllocError`: growth would exceed the greatest index, or an allocation failed.
-    ///
-    /// On error, nothing changes and the value is dropped.
+    /// - `FailedLinkRequirement`
+    /// - `BeyondMaxCapacity`
+    /// - `AllocError`
     pub fn push_back(&mut self, h: ListHandle<P>, value: T) -> Result<P, ChainInsertionError>
         ensures outcome { PushesBack A.state A.interlinks P.key P.Inx.greatest self.old h.head value
             result self.new }
@@ -300,15 +284,13 @@ impl<P: PtrKey, T: Drop, A: ChainArenaTrait<P, Entry<T>> + Drop> LinkedLists<P, 
         put_before(&mut self.arena, h.head, Entry::Item(value))
     }
 
-    /// Inserts an item directly after another one and returns its pointer.
+    /// Inserts an item directly after `p` and returns its pointer.
     ///
     /// # Errors
     ///
-    /// - `FailedLinkRequirement`: `p` is not an item.
-    /// - `BeyondMaxCapacity`: growth would exceed the maximum.
-    /// - `AllocError`: growth would exceed the greatest index, or an allocation failed.
-    ///
-    /// On error, nothing changes and the value is dropped.
+    /// - `FailedLinkRequirement`
+    /// - `BeyondMaxCapacity`
+    /// - `AllocError`
     pub fn insert_after(&mut self, p: P, value: T) -> Result<P, ChainInsertionError>
         ensures outcome { InsertsAfterItem A.state A.interlinks P.key P.Inx.greatest self.old p
             value result self.new }
@@ -321,15 +303,13 @@ impl<P: PtrKey, T: Drop, A: ChainArenaTrait<P, Entry<T>> + Drop> LinkedLists<P, 
         put_after(&mut self.arena, p, Entry::Item(value))
     }
 
-    /// Inserts an item directly before another one and returns its pointer.
+    /// Inserts an item directly before `p` and returns its pointer.
     ///
     /// # Errors
     ///
-    /// - `FailedLinkRequirement`: `p` is not an item.
-    /// - `BeyondMaxCapacity`: growth would exceed the maximum.
-    /// - `AllocError`: growth would exceed the greatest index, or an allocation failed.
-    ///
-    /// On error, nothing changes and the value is dropped.
+    /// - `FailedLinkRequirement`
+    /// - `BeyondMaxCapacity`
+    /// - `AllocError`
     pub fn insert_before(&mut self, p: P, value: T) -> Result<P, ChainInsertionError>
         ensures outcome { InsertsBeforeItem A.state A.interlinks P.key P.Inx.greatest self.old p
             value result self.new }
@@ -342,7 +322,6 @@ impl<P: PtrKey, T: Drop, A: ChainArenaTrait<P, Entry<T>> + Drop> LinkedLists<P, 
         put_before(&mut self.arena, p, Entry::Item(value))
     }
 
-    // Returns `Some` if `p` is the pointer of an item.
     fn checked_item(&self, p: P) -> Option<()>
         ensures some { OnSome result (IsItem (A.entry self.now) (P.key p)) }
         ensures none { IfNone result (IsItem (A.entry self.now) (P.key p) → ⊥) }
@@ -350,9 +329,7 @@ impl<P: PtrKey, T: Drop, A: ChainArenaTrait<P, Entry<T>> + Drop> LinkedLists<P, 
         if self.is_item(p) { Some(()) } else { None }
     }
 
-    /// Returns a mutable reference to the value of an item, or `None` if `p` is not an item.
-    ///
-    /// Writing through the reference keeps all pointers and the order of each list.
+    /// Returns a mutable reference to the value of an item.
     pub fn get_mut(&mut self, p: P) -> Option<&mut T>
         ensures* writes_back { sem 𝓛 (LendsSo
             (the_row P.row T.row A.row P.Inx.row P.Gen.row P.Inx.Word.row
@@ -377,9 +354,6 @@ impl<P: PtrKey, T: Drop, A: ChainArenaTrait<P, Entry<T>> + Drop> LinkedLists<P, 
     }
 
     /// Replaces the value of an item and returns the former one.
-    ///
-    /// All pointers and the order of each list stay. Returns `None` and changes nothing if `p` is
-    /// not an item; `value` is dropped then.
     pub fn replace(&mut self, p: P, value: T) -> Option<T>
         ensures { ReplacesItem A.state A.interlinks self.old (P.key p) value result self.new }
     {
@@ -389,11 +363,7 @@ impl<P: PtrKey, T: Drop, A: ChainArenaTrait<P, Entry<T>> + Drop> LinkedLists<P, 
         value_of(self.arena.replace(p, Entry::Item(value)))
     }
 
-    /// Removes an item from its list and returns its value.
-    ///
-    /// The other items keep their order, and the capacity stays the same. Returns
-    /// `GenerationOverflow` if the generation counter wrapped: pointers that were removed may then
-    /// become valid again. Returns `InvalidPtr` and changes nothing if `p` is not an item.
+    /// Removes an item and returns its value.
     pub fn remove(&mut self, p: P) -> InvalidationResult<T>
         ensures { RemovesListItem A.state A.interlinks ⟦<P as AnyPointer>⟧.pointers self.old p
             result self.new }
@@ -404,10 +374,7 @@ impl<P: PtrKey, T: Drop, A: ChainArenaTrait<P, Entry<T>> + Drop> LinkedLists<P, 
         removed_value(take(&mut self.arena, p))
     }
 
-    /// Moves an item to the start of a list, its own or another one.
-    ///
-    /// Its pointer and all other items stay. Returns `None` and changes nothing if `p` is not an
-    /// item or `h` is not a handle.
+    /// Moves an item to the start of any list.
     pub fn move_to_front(&mut self, p: P, h: ListHandle<P>) -> Option<()>
         ensures { MovesToFront A.state A.interlinks self.old (P.key p) (P.key h.head) result self.new }
     {
@@ -420,10 +387,7 @@ impl<P: PtrKey, T: Drop, A: ChainArenaTrait<P, Entry<T>> + Drop> LinkedLists<P, 
         self.arena.move_after(p, h.head)
     }
 
-    /// Moves an item to the end of a list, its own or another one.
-    ///
-    /// Its pointer and all other items stay. Returns `None` and changes nothing if `p` is not an
-    /// item or `h` is not a handle.
+    /// Moves an item to the end of any list.
     pub fn move_to_back(&mut self, p: P, h: ListHandle<P>) -> Option<()>
         ensures { MovesToBack A.state A.interlinks self.old (P.key p) (P.key h.head) result self.new }
     {
@@ -440,10 +404,7 @@ impl<P: PtrKey, T: Drop, A: ChainArenaTrait<P, Entry<T>> + Drop> LinkedLists<P, 
         self.arena.move_after(p, last)
     }
 
-    /// Moves an item directly behind another one, in the same list or in another one.
-    ///
-    /// Its pointer and all other items stay. Returns `None` and changes nothing if `p` or `q` is
-    /// not an item, or if both are the same item.
+    /// Moves `p` directly behind `q`, in any list, or returns `None` if both are the same.
     pub fn move_after(&mut self, p: P, q: P) -> Option<()>
         ensures { MovesAfterItem A.state A.interlinks self.old (P.key p) (P.key q) result self.new }
     {
@@ -459,11 +420,10 @@ impl<P: PtrKey, T: Drop, A: ChainArenaTrait<P, Entry<T>> + Drop> LinkedLists<P, 
         self.arena.move_after(p, q)
     }
 
-    /// Returns whether `first` to `last` are items of one list, each directly after the one before
-    /// it, and `q` is none of them.
+    /// Returns whether `first` to `last` are successive items of one list, and none of them is `q`.
     ///
-    /// Takes as many steps as there are items from `first` to `last`, or to `q` or the end of the
-    /// list.
+    /// Moves of a range require this; a handle is in no range. Takes a step for each item from
+    /// `first` to `last`, or to `q` or the end.
     pub fn is_range_without(&self, first: P, last: P, q: P) -> bool
         ensures { IsTrue result ↔ IsRangeWithout A.state A.interlinks self.now (P.key first)
             (P.key last) (P.key q) }
@@ -475,10 +435,7 @@ impl<P: PtrKey, T: Drop, A: ChainArenaTrait<P, Entry<T>> + Drop> LinkedLists<P, 
         range_is_without(&self.arena, first, last, q)
     }
 
-    /// Moves a range of items to the start of a list, their own or another one, in O(1).
-    ///
-    /// Pointers and all other items stay. `is_range_without` tests the requirement: a handle is in
-    /// no range. Returns `None` and changes nothing if `h` is not a handle.
+    /// Moves a range to the start of any list in O(1).
     pub fn move_range_to_front(&mut self, first: P, last: P, h: ListHandle<P>) -> Option<()>
         requires { IsRangeWithout A.state A.interlinks self.old (P.key first) (P.key last)
             (P.key h.head) }
@@ -491,10 +448,7 @@ impl<P: PtrKey, T: Drop, A: ChainArenaTrait<P, Entry<T>> + Drop> LinkedLists<P, 
         self.arena.splice_after(h.head, first, last)
     }
 
-    /// Moves a range of items to the end of a list, their own or another one, in O(1).
-    ///
-    /// Pointers and all other items stay. `is_range_without` tests the requirement: a handle is in
-    /// no range. Returns `None` and changes nothing if `h` is not a handle.
+    /// Moves a range to the end of any list in O(1).
     pub fn move_range_to_back(&mut self, first: P, last: P, h: ListHandle<P>) -> Option<()>
         requires { IsRangeWithout A.state A.interlinks self.old (P.key first) (P.key last)
             (P.key h.head) }
@@ -511,11 +465,7 @@ impl<P: PtrKey, T: Drop, A: ChainArenaTrait<P, Entry<T>> + Drop> LinkedLists<P, 
         self.arena.splice_after(end, first, last)
     }
 
-    /// Moves a range of items directly behind another item, in the same list or in another one, in
-    /// O(1).
-    ///
-    /// Pointers and all other items stay. `is_range_without` tests the requirement. Returns `None`
-    /// and changes nothing if `q` is not an item.
+    /// Moves a range directly behind `q`, in any list, in O(1).
     pub fn move_range_after(&mut self, first: P, last: P, q: P) -> Option<()>
         requires { IsRangeWithout A.state A.interlinks self.old (P.key first) (P.key last)
             (P.key q) }
@@ -528,10 +478,7 @@ impl<P: PtrKey, T: Drop, A: ChainArenaTrait<P, Entry<T>> + Drop> LinkedLists<P, 
         self.arena.splice_after(q, first, last)
     }
 
-    /// Moves all items of the list of `k` behind those of the list of `h`, in O(1).
-    ///
-    /// The list of `k` is empty then, and its handle stays valid. Pointers to items stay. Returns
-    /// `None` and changes nothing if `h` or `k` is not a handle, or if both are the same handle.
+    /// Moves all items of `k` behind those of `h` in O(1), or returns `None` if both are the same.
     pub fn join(&mut self, h: ListHandle<P>, k: ListHandle<P>) -> Option<()>
         ensures { JoinsLists A.state A.interlinks self.old (P.key h.head) (P.key k.head) result self.new }
     {
@@ -554,7 +501,6 @@ impl<P: PtrKey, T: Drop, A: ChainArenaTrait<P, Entry<T>> + Drop> LinkedLists<P, 
         }
     }
 
-    // Returns the pointer of the last item of the list of `p`.
     fn end_of_list_of(&self, p: P) -> P
         requires { IsItem (A.entry self.now) (P.key p) }
         ensures valid { IsValid (A.entry self.now) (P.key result) }
@@ -567,18 +513,13 @@ impl<P: PtrKey, T: Drop, A: ChainArenaTrait<P, Entry<T>> + Drop> LinkedLists<P, 
         }
     }
 
-    /// Moves the items of a list from `p` on to a new list and returns the new handle.
-    ///
-    /// Pointers to items stay. Returns `Ok(None)` and changes nothing if `p` is not an item.
-    ///
-    /// Takes as many steps as there are items from `p` on, to find the end of the list.
+    /// Moves `p` and the items after it to a new list and returns its handle, in as many steps as
+    /// it moves items.
     ///
     /// # Errors
     ///
-    /// - `BeyondMaxCapacity`: growth would exceed the maximum.
-    /// - `AllocError`: growth would exceed the greatest index, or an allocation failed.
-    ///
-    /// On error, nothing changes.
+    /// - `BeyondMaxCapacity`
+    /// - `AllocError`
     pub fn split_at(&mut self, p: P) -> Result<Option<ListHandle<P>>, ReallocationError>
         ensures { SplitsList A.state A.interlinks P.key (λ h. P.key h.head) P.Inx.greatest self.old
             p result self.new }
@@ -593,11 +534,11 @@ impl<P: PtrKey, T: Drop, A: ChainArenaTrait<P, Entry<T>> + Drop> LinkedLists<P, 
         Ok(Some(h))
     }
 
-    /// Returns the pointers of the items of a list, in order, or `None` if `h` is not a handle.
+    /// Returns the items of a list, in order.
     ///
     /// # Errors
     ///
-    /// - `AllocError`: an allocation failed.
+    /// - `AllocError`
     pub fn walk(&self, alloc: Global, h: ListHandle<P>) -> Result<Option<Vec<P>>, AllocError>
         ensures some { IfOk result (λ r. IsSome r ↔ IsHandle (A.entry self.now) (P.key h.head)) }
         ensures items { IfOk result (λ r. IfSome r (λ pointers. ListsItems A.state A.interlinks
@@ -616,8 +557,6 @@ impl<P: PtrKey, T: Drop, A: ChainArenaTrait<P, Entry<T>> + Drop> LinkedLists<P, 
         }
     }
 
-    // Removes all items of a list, from the first one on, and returns how many they were, and
-    // whether the generation counter wrapped.
     fn remove_items(&mut self, h: ListHandle<P>) -> (usize, bool)
         requires { IsHandle (A.entry self.old) (P.key h.head) }
         ensures { EmptiesList A.state A.interlinks P.Gen.wraps P.Gen.following self.old (P.key h.head)
@@ -633,11 +572,7 @@ impl<P: PtrKey, T: Drop, A: ChainArenaTrait<P, Entry<T>> + Drop> LinkedLists<P, 
         (links - self.len(), wrapped)
     }
 
-    /// Removes a list, drops its items, and returns how many they were.
-    ///
-    /// All other lists and the capacity stay the same. Returns `GenerationOverflow` if the
-    /// generation counter wrapped: pointers that were removed may then become valid again. Returns
-    /// `InvalidPtr` and changes nothing if `h` is not a handle.
+    /// Removes a list, drops its items and returns their number.
     pub fn remove_list(&mut self, h: ListHandle<P>) -> InvalidationResult<usize>
         ensures { RemovesList A.state A.interlinks P.Gen.wraps P.Gen.following self.old (P.key h.head)
             result self.new }
@@ -652,7 +587,6 @@ impl<P: PtrKey, T: Drop, A: ChainArenaTrait<P, Entry<T>> + Drop> LinkedLists<P, 
     }
 }
 
-// Removes the last pointer.
 fn without_last<P: PtrKey>(mut pointers: Vec<P>) -> Vec<P>
     ensures { (others : List P) (last : P) → pointers.items ≡ others ++ last ∷ []
         → result.items ≡ others }

@@ -1,4 +1,4 @@
-//! Insertions, removals and reads in the rings of an arena of links.
+//! Calls on the rings of an arena of links.
 
 ghost use Rattle.std.specs.Prelude.{◌≡◌, ◌↔◌, IsTrue, IfOk, IfSome, OnSome};
 ghost use Rattle.arena_core.specs.Invalidation.{is_overflow_result, value_within};
@@ -18,7 +18,6 @@ use chain_links::LinkInsertKind;
 use chain_traits::ChainArenaTrait;
 use chain_traits::walks::advancer_passes_the_walk;
 
-// Creates a ring of one link and returns its handle.
 pub(crate) fn start_ring<P: PtrKey, V: Drop, A: ChainArenaTrait<P, V>>(
     arena: &mut A,
     value: V,
@@ -35,7 +34,6 @@ pub(crate) fn start_ring<P: PtrKey, V: Drop, A: ChainArenaTrait<P, V>>(
     }
 }
 
-// Inserts a link directly after another one and returns its pointer.
 pub(crate) fn put_after<P: PtrKey, V: Drop, A: ChainArenaTrait<P, V>>(
     arena: &mut A,
     p: P,
@@ -49,7 +47,6 @@ pub(crate) fn put_after<P: PtrKey, V: Drop, A: ChainArenaTrait<P, V>>(
     arena.insert_reallocating(LinkInsertKind::NextTo(p), value)
 }
 
-// Inserts a link directly before another one and returns its pointer.
 pub(crate) fn put_before<P: PtrKey, V: Drop, A: ChainArenaTrait<P, V>>(
     arena: &mut A,
     p: P,
@@ -63,7 +60,6 @@ pub(crate) fn put_before<P: PtrKey, V: Drop, A: ChainArenaTrait<P, V>>(
     arena.insert_reallocating(LinkInsertKind::PrevTo(p), value)
 }
 
-// Removes a link and returns its value.
 pub(crate) fn take<P: PtrKey, V: Drop, A: ChainArenaTrait<P, V>>(
     arena: &mut A,
     p: P,
@@ -77,7 +73,6 @@ pub(crate) fn take<P: PtrKey, V: Drop, A: ChainArenaTrait<P, V>>(
     arena.remove(p)
 }
 
-// Returns the pointer of the next link, or `None` if `p` is not valid.
 pub(crate) fn next_link<P: PtrKey, V: Drop, A: ChainArenaTrait<P, V>>(arena: &A, p: P) -> Option<P>
     ensures { ReadsNextLink A.state A.interlinks P.key arena.now p result }
 {
@@ -87,7 +82,6 @@ pub(crate) fn next_link<P: PtrKey, V: Drop, A: ChainArenaTrait<P, V>>(arena: &A,
     }
 }
 
-// Returns the pointer of the previous link, or `None` if `p` is not valid.
 pub(crate) fn prev_link<P: PtrKey, V: Drop, A: ChainArenaTrait<P, V>>(arena: &A, p: P) -> Option<P>
     ensures { ReadsPrevLink A.state A.interlinks P.key arena.now p result }
 {
@@ -97,14 +91,12 @@ pub(crate) fn prev_link<P: PtrKey, V: Drop, A: ChainArenaTrait<P, V>>(arena: &A,
     }
 }
 
-// Returns whether two pointers have the same index and generation.
 pub(crate) fn are_same<P: PtrKey>(p: P, q: P) -> bool
     ensures { IsTrue result ↔ (P.key p ≡ P.key q) }
 {
     p.is_same(q)
 }
 
-// Returns whether `h` is the pointer of a head.
 pub(crate) fn is_head<P: PtrKey, T: Drop, A: ChainArenaTrait<P, Entry<T>>>(arena: &A, h: P) -> bool
     ensures { IsTrue result ↔ IsHandle (A.entry arena.now) (P.key h) }
 {
@@ -114,7 +106,6 @@ pub(crate) fn is_head<P: PtrKey, T: Drop, A: ChainArenaTrait<P, Entry<T>>>(arena
     }
 }
 
-// Returns the first head on the walk from `p`, if there is one.
 pub(crate) fn find_head<P: PtrKey, T: Drop, A: ChainArenaTrait<P, Entry<T>>>(
     arena: &A,
     p: P,
@@ -135,7 +126,7 @@ pub(crate) fn find_head<P: PtrKey, T: Drop, A: ChainArenaTrait<P, Entry<T>>>(
     None
 }
 
-// Returns whether the walk from `first` comes to `last` before any head, and not to `q` before that.
+// Returns whether the walk from `first` to `last` passes no head and not `q`.
 pub(crate) fn range_is_without<P: PtrKey, T: Drop, A: ChainArenaTrait<P, Entry<T>>>(
     arena: &A,
     first: P,
