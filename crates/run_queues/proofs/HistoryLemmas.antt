@@ -1,4 +1,4 @@
--- Fairness over changes, one after another.
+-- Fairness over changes.
 use Rattle.std.proofs.Common.{◌≡◌, ◌⊎◌, inl, inr, ⊎_elim, ℕ, List, [], ◌∷◌, ◌++◌, sym, subst, append_assoc, Option}
 use Rattle.arena_core.specs.PointerKinds.{PointerKind}
 use Rattle.chain_laws.specs.Chains.{LinkMap}
@@ -27,7 +27,7 @@ module _ {A Gen T : Type 0} {view : A → ArenaView Gen (Entry T)} {entry : A �
       let b = two a.0 a.1 in
       (b.0, b.1, run_on first second (pointers_of tasks) (pointers_of a.0) (pointers_of b.0) a.2 b.2)
 
-  -- The steps of the queue of `q` until its task `x` has a turn.
+  -- The steps of `q` until its task `x` has a turn.
   record StepsUntil (old : A) (changes : List (Change Gen)) (new : A) (q x : ℕ × Gen) : Type 0 where
     steps : List (Step (ℕ × Gen))
     taken : TakesSteps state interlinks old new q (steps ++ turn x ∷ [])

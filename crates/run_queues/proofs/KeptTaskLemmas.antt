@@ -1,4 +1,4 @@
--- No task is lost: what each change does to a task, and any number of them.
+-- What changes do to a task.
 use Rattle.std.proofs.Common.{◌≡◌, ℕ, inl, inr, ⊎_elim, List, [], ◌∷◌, Option, sym, subst}
 use Rattle.std.specs.Prelude.{◌⊎◌}
 use Rattle.arena_core.specs.PointerKinds.{PointerKind}

@@ -1,4 +1,4 @@
--- Fairness: a task that is ahead of another one stays ahead until it has a turn or leaves.
+-- Fairness of turns in one queue.
 use Rattle.std.proofs.Common.{◌≡◌, ◌⊎◌, inl, inr, ⊎_elim, List, [], ◌∷◌, ◌++◌, refl, sym, ap, ◌∙◌, subst, append_assoc}
 use Rattle.run_queues.specs.Turns.{Step, turn, come, leave, IsAmong, IsStep, IsRun, HasTurn, Leaves, IsAhead, TasksStayAhead, TurnsAreFair}
 

@@ -1,4 +1,4 @@
--- Calls on queues, one after another, and the steps that they make in each queue.
+-- Calls on queues, and their steps.
 use Rattle.std.specs.Prelude.{◌≡◌, ◌≢◌, ◌⊎◌, ℕ, List, [], ◌∷◌, ◌++◌, Option, Some, IsSome, Result, Ok}
 use Rattle.arena_core.specs.declared.errors.ReallocationError.{ReallocationError}
 use Rattle.arena_core.specs.Invalidation.{value_within}
@@ -13,7 +13,7 @@ use Rattle.linked_lists.specs.LinkedLists.{pointers_of, IsHandle, HasItem, IsIte
 use Rattle.run_queues.specs.Turns.{Step, IsAmong, HasTurn, Leaves}
 use Rattle.run_queues.specs.RunQueues.{IsTurnTaken, IsOneWoken, TakesSteps, TakesTurn, WakesOne}
 
--- A call that succeeded, with its queues and its task. Calls that fail change nothing.
+-- A call that succeeded.
 pub data Change (Gen : Type 0) : Type 0 where
   creates : (q : ℕ × Gen) → Change Gen
   spawns : (q p : ℕ × Gen) → Change Gen
@@ -27,7 +27,7 @@ pub data Change (Gen : Type 0) : Type 0 where
   grows : Change Gen
 
 module _ {Gen : Type 0} where
-  -- The change can take the task `p` out of the queue of `q`.
+  -- The change can take `p` out of `q`.
   abbrev pub TakesAway : Change Gen → (q p : ℕ × Gen) → Type 0
   TakesAway (creates h) q p = ⊥
   TakesAway (spawns h r) q p = ⊥
@@ -40,14 +40,14 @@ module _ {Gen : Type 0} where
   TakesAway (removes l) q p = l ≡ q
   TakesAway grows q p = ⊥
 
-  -- One of the changes can take `p` out of the queue of `q`.
+  -- One change can take `p` out of `q`.
   abbrev pub OneTakesAway : List (Change Gen) → (q p : ℕ × Gen) → Type 0
   OneTakesAway [] q p = ⊥
   OneTakesAway (change ∷ changes) q p = TakesAway change q p ⊎ OneTakesAway changes q p
 
 module _ {A Gen T : Type 0} {view : A → ArenaView Gen (Entry T)} {entry : A → ℕ → Option (Gen × Entry T)} (state : (a : A) → ArenaState (view a) (entry a)) (interlinks : A → LinkMap)
     {P I W : Type 0} (pointers : PointerKind P I Gen W) where
-  -- What each call states where it succeeds.
+  -- What each change states.
   abbrev pub Makes : A → Change Gen → A → Type 0
   Makes old (creates q) new = IsListStarted state interlinks old new q
   Makes old (spawns q p) new = IsHandle (entry old) q × (t : T) × IsItemAdded state interlinks old new (GrowsAtEnd state interlinks old new q) (p, t)
@@ -60,7 +60,7 @@ module _ {A Gen T : Type 0} {view : A → ArenaView Gen (Entry T)} {entry : A �
   Makes old (removes q) new = (tasks : List (Item Gen T)) × IsListRemoved state interlinks old new pointers.following q tasks
   Makes old grows new = (entry new ≡ entry old) × (interlinks new ≡ interlinks old)
 
-  -- What the contract of each call states where it succeeds is a change.
+  -- Each call that succeeds makes a change.
   pub record CallsMakeChanges {H : Type 0} (key : H → ℕ × Gen) : Type 0 where
     pub new_queue : (greatest : ℕ) (old new : A) (q : H) → CreatesList state interlinks key greatest old (Ok q) new → Makes old (creates (key q)) new
     pub spawn : (greatest : ℕ) (old new : A) (q p : P) (t : T) → PushesBack state interlinks pointers.key greatest old q t (Ok p) new → Makes old (spawns (pointers.key q) (pointers.key p)) new
@@ -73,13 +73,12 @@ module _ {A Gen T : Type 0} {view : A → ArenaView Gen (Entry T)} {entry : A �
     pub remove_queue : (old new : A) (q : ℕ × Gen) (result : InvalidationResult ℕ) → IsSome (value_within result) → RemovesList state interlinks pointers.wraps pointers.following old q result new → Makes old (removes q) new
     pub reserve : (greatest additional : ℕ) (old new : A) (done : Result Unit ReallocationError) → ReservesMore state interlinks greatest additional old done new → Makes old grows new
 
-  -- Changes one after another. Before each, each task is in exactly one queue, as always.
+  -- Changes in order; before each, each task is in exactly one queue.
   abbrev pub History : A → List (Change Gen) → A → Type 0
   History old [] new = new ≡ old
   History old (change ∷ changes) new = AllInLists state interlinks old × (mid : A) × Makes old change mid × History mid changes new
 
-  -- These steps happen in the queue of `q`. Only `next` gives a turn, and only a change that takes
-  -- tasks away lets one leave.
+  -- The steps in `q`: only `next` gives turns, and tasks leave only if taken away.
   pub record AreStepsOf (old : A) (change : Change Gen) (new : A) (q : ℕ × Gen) (steps : List (Step (ℕ × Gen))) : Type 0 where
     pub taken : TakesSteps state interlinks old new q steps
     pub turns : (p : ℕ × Gen) → HasTurn steps p → change ≡ gives_turn q p
@@ -90,15 +89,14 @@ module _ {A Gen T : Type 0} {view : A → ArenaView Gen (Entry T)} {entry : A �
   CallsTakeSteps = (old new : A) (change : Change Gen) (q : ℕ × Gen) → AllInLists state interlinks old → Makes old change new → change ≢ removes q
       → (steps : List (Step (ℕ × Gen))) × AreStepsOf old change new q steps
 
-  -- Fairness: between two turns that `next` gives to the task `x` of the queue of `q`, it gives one
-  -- to each other task that this queue had, unless a call takes that task away.
+  -- Between two turns of `x` in `q`, each other task there has one or is taken away.
   abbrev pub CallsAreFair : Type 0
   CallsAreFair = (old new : A) (q x y : ℕ × Gen) (tasks : List (Item Gen T)) (changes : List (Change Gen))
       → History old (gives_turn q x ∷ changes ++ gives_turn q x ∷ []) new
       → IsList state interlinks old q tasks → IsAmong (pointers_of tasks) y → x ≢ y
       → IsAmong changes (gives_turn q y) ⊎ OneTakesAway changes q y
 
-  -- The change ends the task `p`: it is canceled, or removed with its queue.
+  -- The change ends `p`, alone or with its queue.
   abbrev pub Ends : A → Change Gen → ℕ × Gen → Type 0
   Ends old (creates q) p = ⊥
   Ends old (spawns q r) p = ⊥
@@ -111,13 +109,13 @@ module _ {A Gen T : Type 0} {view : A → ArenaView Gen (Entry T)} {entry : A �
   Ends old (removes q) p = IsInListOf state interlinks old q p
   Ends old grows p = ⊥
 
-  -- One of the changes ends `p`.
+  -- One change ends `p`.
   abbrev pub OneEnds : (old : A) (changes : List (Change Gen)) (new : A) → History old changes new → ℕ × Gen → Type 0
   OneEnds old [] new history p = ⊥
   OneEnds old (change ∷ changes) new history p = Ends old change p ⊎ OneEnds history.1 changes new history.3 p
 
-  -- After any calls, each task that was there is in exactly one queue, at one place, unless a call
-  -- ended it.
+  -- After any calls, each earlier task is in exactly one queue, at one place, unless a call ended
+  -- it.
   abbrev pub CallsKeepTasks : Type 0
   CallsKeepTasks = (old new : A) (changes : List (Change Gen)) (p : ℕ × Gen) (history : History old changes new) → AllInLists state interlinks new → IsItem (entry old) p
       → OneEnds old changes new history p ⊎ ((t : T) × HasPlace state interlinks new p t)

@@ -1,7 +1,4 @@
-//! Queues of tasks that share one arena of links.
-//!
-//! Each task is in exactly one queue. Tasks of a queue take turns, and are moved to another queue in
-//! O(1). A wait list is a queue whose tasks take no turns.
+//! Queues of tasks in one arena, each task in exactly one queue.
 #![tactic(auto)]
 
 mod run_queues;

@@ -1,4 +1,4 @@
-//! Queues of tasks, which are all stored in one arena.
+//! Run queues.
 
 ghost use Rattle.std.specs.Prelude.{◌≡◌, ◌↔◌, ◌+◌, ℕ, [], IsTrue, IfSome, IfOk, OnOk, IsSome, None, Some};
 ghost use Rattle.arena_traits.specs.Entries.{IsNew, count};
@@ -17,18 +17,15 @@ use linked_lists::{Entry, LinkedLists, ListHandle as Queue};
 use std::alloc::{AllocError, Global};
 use std::marker::Model;
 
-/// Queues of tasks in one arena. Each task is in exactly one queue.
+/// Queues of tasks in one arena.
 ///
-/// Creating a queue returns its handle, and spawning a task returns its pointer. The pointer
-/// identifies the task until it is canceled, whatever queue it is in. A pointer of a task is no
-/// handle of a queue. A handle or pointer that was removed is not valid, until the generation
-/// counter of the arena wraps.
+/// A pointer identifies its task in any queue until it is canceled. Pointers, handles, removals and
+/// errors are as in `LinkedLists`, whose lists are the queues. Calls return `None`, `InvalidPtr` or
+/// `FailedLinkRequirement` if `task` is not a task, or `queue` or `list` is not a handle. A refused
+/// call changes nothing and drops the value it was given. A wait list is a queue without calls of
+/// `next`.
 ///
-/// A task blocks by a move to a wait list, which is a queue without turns: no one calls `next` on
-/// it.
-///
-/// Contracts see the arena. A queue is the list of its tasks (`IsList`), each with its pointer's
-/// index and generation.
+/// Contracts see the arena. A queue is the list of its tasks (`IsList`).
 #[derive(Drop)]
 pub struct RunQueues<P: PtrKey, T: Drop, A: ChainArenaTrait<P, Entry<T>> + Drop> {
     lists: LinkedLists<P, T, A>,
@@ -41,7 +38,7 @@ impl<P: PtrKey, T: Drop, A: ChainArenaTrait<P, Entry<T>> + Drop> Model for RunQu
 }
 
 impl<P: PtrKey, T: Drop, A: ChainArenaTrait<P, Entry<T>> + Drop> RunQueues<P, T, A> {
-    /// Creates a collection without queues. It does not allocate.
+    /// Creates an empty collection without allocating.
     pub fn new(alloc: Global) -> Self
         ensures new { IsNew P.Gen.first (A.view result) }
         ensures capacity { (A.view result).capacity ≡ 0 }
@@ -52,7 +49,7 @@ impl<P: PtrKey, T: Drop, A: ChainArenaTrait<P, Entry<T>> + Drop> RunQueues<P, T,
         }
     }
 
-    /// Returns the number of tasks and of queues, taken together.
+    /// Returns the number of tasks plus the number of queues.
     pub fn len(&self) -> usize
         ensures { CountsEntries (A.view self.now) result }
     {
@@ -66,14 +63,14 @@ impl<P: PtrKey, T: Drop, A: ChainArenaTrait<P, Entry<T>> + Drop> RunQueues<P, T,
         self.lists.is_empty()
     }
 
-    /// Returns the number of tasks and queues that can be held without growing.
+    /// Returns the number of tasks and queues that fit without growing.
     pub fn capacity(&self) -> usize
         ensures { ReportsCapacity (A.view self.now) P.Inx.greatest result }
     {
         self.lists.capacity()
     }
 
-    /// Returns the maximum capacity, or `None` if there is no limit.
+    /// Returns the maximum capacity, or `None` if unlimited.
     pub fn max_capacity(&self) -> Option<usize>
         ensures { result ≡ (A.view self.now).maximum }
     {
@@ -82,14 +79,10 @@ impl<P: PtrKey, T: Drop, A: ChainArenaTrait<P, Entry<T>> + Drop> RunQueues<P, T,
 
     /// Reserves capacity for at least `additional` more tasks and queues.
     ///
-    /// Does nothing if the capacity suffices.
-    ///
     /// # Errors
     ///
-    /// - `BeyondMaxCapacity`: growth would exceed the maximum.
-    /// - `AllocError`: growth would exceed the greatest index, or an allocation failed.
-    ///
-    /// On error, nothing changes.
+    /// - `BeyondMaxCapacity`
+    /// - `AllocError`
     pub fn reserve(&mut self, additional: usize) -> Result<(), ReallocationError>
         ensures reserves { ReservesMore A.state A.interlinks P.Inx.greatest additional self.old
             result self.new }
@@ -99,60 +92,53 @@ impl<P: PtrKey, T: Drop, A: ChainArenaTrait<P, Entry<T>> + Drop> RunQueues<P, T,
         self.lists.reserve(additional)
     }
 
-    /// States that each task is in exactly one queue: no task is lost, and none is in two queues or
-    /// twice in one.
-    ///
-    /// Has no effect.
+    /// States that each task is in exactly one queue, at one place; has no effect.
     pub fn each_in_one_queue(&self)
         ensures { AllInLists A.state A.interlinks self.now }
     {
         self.lists.all_in_lists();
     }
 
-    /// Returns whether `queue` is the handle of a queue.
+    /// Returns whether `queue` is a handle.
     pub fn is_queue(&self, queue: Queue<P>) -> bool
         ensures { IsTrue result ↔ IsHandle (A.entry self.now) (P.key queue.head) }
     {
         self.lists.is_list(queue)
     }
 
-    /// Returns whether `task` is the pointer of a task.
+    /// Returns whether `task` is a task.
     pub fn is_task(&self, task: P) -> bool
         ensures { IsTrue result ↔ IsItem (A.entry self.now) (P.key task) }
     {
         self.lists.is_item(task)
     }
 
-    /// Returns a reference to the value of a task, or `None` if `task` is not a task.
+    /// Returns the value of a task.
     pub fn get(&self, task: P) -> Option<&T>
         ensures { ReadsValue (A.entry self.now) (P.key task) result }
     {
         self.lists.get(task)
     }
 
-    /// Returns the first task of a queue, or `None` if the queue is empty or `queue` is not a
-    /// handle. The task has no turn.
+    /// Returns the first task of a queue, or `None` if it is empty.
     pub fn first(&self, queue: Queue<P>) -> Option<P>
         ensures { ReadsFirst A.state A.interlinks P.key self.now queue.head result }
     {
         self.lists.first(queue)
     }
 
-    /// Returns the handle of the queue of a task, or `None` if `task` is not a task.
-    ///
-    /// Takes at most as many steps as the queue has tasks.
+    /// Returns the queue of a task, in at most as many steps as the queue has tasks.
     pub fn queue_of(&self, task: P) -> Option<Queue<P>>
         ensures { ReadsHandle A.state A.interlinks P.key (λ q. P.key q.head) self.now task result }
     {
         self.lists.list_of(task)
     }
 
-    /// Returns the pointers of the tasks of a queue in the order of their turns, or `None` if
-    /// `queue` is not a handle.
+    /// Returns the tasks of a queue, in order.
     ///
     /// # Errors
     ///
-    /// - `AllocError`: an allocation failed.
+    /// - `AllocError`
     pub fn tasks(&self, alloc: Global, queue: Queue<P>) -> Result<Option<Vec<P>>, AllocError>
         ensures some { IfOk result (λ r. IsSome r ↔ IsHandle (A.entry self.now) (P.key queue.head)) }
         ensures tasks { IfOk result (λ r. IfSome r (λ pointers. ListsItems A.state A.interlinks
@@ -165,10 +151,8 @@ impl<P: PtrKey, T: Drop, A: ChainArenaTrait<P, Entry<T>> + Drop> RunQueues<P, T,
     ///
     /// # Errors
     ///
-    /// - `BeyondMaxCapacity`: growth would exceed the maximum.
-    /// - `AllocError`: growth would exceed the greatest index, or an allocation failed.
-    ///
-    /// On error, nothing changes.
+    /// - `BeyondMaxCapacity`
+    /// - `AllocError`
     pub fn new_queue(&mut self) -> Result<Queue<P>, ReallocationError>
         ensures outcome { CreatesList A.state A.interlinks (λ q. P.key q.head) P.Inx.greatest
             self.old result self.new }
@@ -182,11 +166,9 @@ impl<P: PtrKey, T: Drop, A: ChainArenaTrait<P, Entry<T>> + Drop> RunQueues<P, T,
     ///
     /// # Errors
     ///
-    /// - `FailedLinkRequirement`: `queue` is not a handle.
-    /// - `BeyondMaxCapacity`: growth would exceed the maximum.
-    /// - `AllocError`: growth would exceed the greatest index, or an allocation failed.
-    ///
-    /// On error, nothing changes and the task is dropped.
+    /// - `FailedLinkRequirement`
+    /// - `BeyondMaxCapacity`
+    /// - `AllocError`
     pub fn spawn(&mut self, queue: Queue<P>, task: T) -> Result<P, ChainInsertionError>
         ensures outcome { PushesBack A.state A.interlinks P.key P.Inx.greatest self.old queue.head
             task result self.new }
@@ -197,20 +179,13 @@ impl<P: PtrKey, T: Drop, A: ChainArenaTrait<P, Entry<T>> + Drop> RunQueues<P, T,
     }
 
     /// Replaces the value of a task and returns the former one.
-    ///
-    /// All pointers and the order of each queue stay. Returns `None` and changes nothing if `task`
-    /// is not a task; `value` is dropped then.
     pub fn replace(&mut self, task: P, value: T) -> Option<T>
         ensures { ReplacesItem A.state A.interlinks self.old (P.key task) value result self.new }
     {
         self.lists.replace(task, value)
     }
 
-    /// Removes a task from its queue and returns its value.
-    ///
-    /// The other tasks keep their order, and the capacity stays the same. Returns
-    /// `GenerationOverflow` if the generation counter wrapped: pointers that were removed may then
-    /// become valid again. Returns `InvalidPtr` and changes nothing if `task` is not a task.
+    /// Removes a task and returns its value.
     pub fn cancel(&mut self, task: P) -> InvalidationResult<T>
         ensures { RemovesListItem A.state A.interlinks ⟦<P as AnyPointer>⟧.pointers self.old task
             result self.new }
@@ -218,11 +193,7 @@ impl<P: PtrKey, T: Drop, A: ChainArenaTrait<P, Entry<T>> + Drop> RunQueues<P, T,
         self.lists.remove(task)
     }
 
-    /// Removes a queue, drops its tasks, and returns how many they were.
-    ///
-    /// All other queues and the capacity stay the same. Returns `GenerationOverflow` if the
-    /// generation counter wrapped: pointers that were removed may then become valid again. Returns
-    /// `InvalidPtr` and changes nothing if `queue` is not a handle.
+    /// Removes a queue, drops its tasks and returns their number.
     pub fn remove_queue(&mut self, queue: Queue<P>) -> InvalidationResult<usize>
         ensures { RemovesList A.state A.interlinks P.Gen.wraps P.Gen.following self.old
             (P.key queue.head) result self.new }
@@ -230,20 +201,14 @@ impl<P: PtrKey, T: Drop, A: ChainArenaTrait<P, Entry<T>> + Drop> RunQueues<P, T,
         self.lists.remove_list(queue)
     }
 
-    /// Gives the first task of a queue its turn: it becomes the last one, and its pointer is
-    /// returned.
-    ///
-    /// Returns `None` and changes nothing if the queue is empty or `queue` is not a handle. Turns
-    /// are fair (`turns_are_fair`).
+    /// Moves the first task to the end (its turn) and returns it, or `None` if there is none.
     pub fn next(&mut self, queue: Queue<P>) -> Option<P>
         ensures { TakesTurn A.state A.interlinks P.key self.old queue.head result self.new }
     {
         self.wake_one(queue, queue)
     }
 
-    /// Moves a task to the end of a queue, which may be its own.
-    ///
-    /// Returns `None` and changes nothing if `task` is not a task or `queue` is not a handle.
+    /// Moves a task to the end of any queue.
     pub fn move_to(&mut self, task: P, queue: Queue<P>) -> Option<()>
         ensures { MovesToBack A.state A.interlinks self.old (P.key task) (P.key queue.head) result
             self.new }
@@ -251,10 +216,8 @@ impl<P: PtrKey, T: Drop, A: ChainArenaTrait<P, Entry<T>> + Drop> RunQueues<P, T,
         self.lists.move_to_back(task, queue)
     }
 
-    /// Moves the first task of `list` to the end of `queue` and returns its pointer.
-    ///
-    /// Returns `None` and changes nothing if `list` is empty, or if `list` or `queue` is not a
-    /// handle.
+    /// Moves the first task of `list` to the end of `queue` and returns it, or `None` if there is
+    /// none.
     pub fn wake_one(&mut self, list: Queue<P>, queue: Queue<P>) -> Option<P>
         ensures { WakesOne A.state A.interlinks P.key self.old list.head queue.head result self.new }
     {
@@ -268,10 +231,8 @@ impl<P: PtrKey, T: Drop, A: ChainArenaTrait<P, Entry<T>> + Drop> RunQueues<P, T,
         }
     }
 
-    /// Moves all tasks of `list` to the end of `queue`, in order.
-    ///
-    /// Returns `None` and changes nothing if `list` or `queue` is not a handle, or if both are the
-    /// same queue.
+    /// Moves all tasks of `list` to the end of `queue`, in order, or returns `None` if both are the
+    /// same.
     pub fn wake_all(&mut self, list: Queue<P>, queue: Queue<P>) -> Option<()>
         ensures { JoinsLists A.state A.interlinks self.old (P.key queue.head) (P.key list.head) result
             self.new }
@@ -280,45 +241,33 @@ impl<P: PtrKey, T: Drop, A: ChainArenaTrait<P, Entry<T>> + Drop> RunQueues<P, T,
     }
 }
 
-/// States the laws of turns in one queue: a task that is ahead of another one stays ahead until it
-/// has a turn or leaves. So between two turns of a task, each other task that was in the queue has a
-/// turn or leaves.
-///
-/// Has no effect.
+/// States that between two turns of a task, each other task that was in the queue has a turn or
+/// leaves, since a task that is ahead stays ahead until then.
 pub fn turns_are_fair<P: PtrKey>()
     ensures ahead { TasksStayAhead (ℕ × P.Gen) }
     ensures fair { TurnsAreFair (ℕ × P.Gen) }
 {}
 
-/// States that each call that succeeds makes a change, of those that the laws below are about.
-///
-/// This follows from the contracts of the calls. The function has no effect.
+/// States that each call that succeeds makes a change of the laws below.
 pub fn calls_make_changes<P: PtrKey, T: Drop, A: ChainArenaTrait<P, Entry<T>>>()
     ensures { CallsMakeChanges A.state A.interlinks ⟦<P as AnyPointer>⟧.pointers
         (λ (q : Queue P P.Inx P.Gen P.Inx.Word). P.key q.head) }
 {}
 
-/// States that each call takes steps in each queue: only `next` gives turns, and only `move_to`,
-/// `wake_one`, `wake_all` and `cancel` take tasks away from a queue that is not removed.
-///
-/// This follows from the contracts of the calls. The function has no effect.
+/// States that only `next` gives turns, and that tasks leave a queue only by `move_to`, `wake_one`,
+/// `wake_all` and `cancel`, unless it is removed.
 pub fn calls_take_steps<P: PtrKey, T: Drop, A: ChainArenaTrait<P, Entry<T>>>()
     ensures { CallsTakeSteps A.state A.interlinks ⟦<P as AnyPointer>⟧.pointers }
 {}
 
-/// States that calls are fair: between two turns that `next` gives to one task of a queue, it gives
-/// a turn to each other task that the queue had, whatever other calls come between. The exception is
-/// a task that a call moves, wakes or cancels, or removes with its queue.
-///
-/// This follows from the contracts of the calls. The function has no effect.
+/// States that between two turns of a task, `next` gives one to each other task of the queue that
+/// no call moves, wakes, cancels or removes.
 pub fn calls_are_fair<P: PtrKey, T: Drop, A: ChainArenaTrait<P, Entry<T>>>()
     ensures { CallsAreFair A.state A.interlinks ⟦<P as AnyPointer>⟧.pointers }
 {}
 
-/// States that no task is lost: after any list of calls, each task that was there is in exactly one
-/// queue, at one place, unless a call ended it, alone or with its queue.
-///
-/// This follows from the contracts of the calls. The function has no effect.
+/// States that after any calls each earlier task is in exactly one queue, at one place, unless a
+/// call ended it.
 pub fn calls_keep_tasks<P: PtrKey, T: Drop, A: ChainArenaTrait<P, Entry<T>>>()
     ensures { CallsKeepTasks A.state A.interlinks ⟦<P as AnyPointer>⟧.pointers }
 {}
