@@ -1,4 +1,4 @@
--- What each change does to a paragraph, and any number of them.
+-- What changes do to a paragraph.
 use Rattle.std.proofs.Common.{◌≡◌, ℕ, inl, inr, ⊎_elim, List, [], ◌∷◌, Option, sym, subst}
 use Rattle.std.specs.Prelude.{◌⊎◌, Bool, IsSome}
 use Rattle.arena_core.specs.Invalidation.{value_within}

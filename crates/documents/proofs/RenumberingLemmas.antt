@@ -69,7 +69,6 @@ pub each_after : {A Gen T R E : Type 0} {view : A → ArenaView Gen (Entry T)} {
 each_after state interlinks old new begins following move (Ok m) is same each = each_renumbered state interlinks old new begins following (move m) is each
 each_after state interlinks old new begins following move (Err why) is same each = subst (EachInList state interlinks) (sym same) each
 
--- An arena that is taken out, renumbered and put back.
 module _ {A Gen T R E : Type 0} {view : A → ArenaView Gen (Entry T)} {entry : A → ℕ → Option (Gen × Entry T)} (state : (a : A) → ArenaState (view a) (entry a)) (interlinks : A → LinkMap) (old taken after new : A)
     (was : taken ≡ old) (is_put : new ≡ after) (begins : Gen) (following : Gen → Gen) (move : R → Moves Gen) where
   pub renumbers : (r : Result R E) → IfOk r (λ m. IsRenumbered begins following view entry interlinks taken after (move m)) → IfOk r (λ m. IsRenumbered begins following view entry interlinks old new (move m))

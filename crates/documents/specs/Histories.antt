@@ -1,4 +1,4 @@
--- Calls on documents, one after another, and that no paragraph is lost.
+-- Calls on documents keep the paragraphs.
 use Rattle.std.specs.Prelude.{◌≡◌, ◌⊎◌, ℕ, List, [], ◌∷◌, Option, Some, IsSome, Result, Ok}
 use Rattle.arena_core.specs.Invalidation.{value_within}
 use Rattle.arena_core.specs.PointerKinds.{PointerKind}
@@ -13,8 +13,7 @@ use Rattle.linked_lists.specs.declared.entry.Entry.{Entry}
 use Rattle.linked_lists.specs.declared.entry.Entry.TheVariants as entries
 use Rattle.linked_lists.specs.LinkedLists.{IsItem, IsInListOf, HasPlace, AllInLists, KeepsEntries, ValueBecomes, LeavesList, IsListRemoved, CreatesList, PushesFront, PushesBack, InsertsAfterItem, InsertsBeforeItem, ReplacesItem, MovesToFront, MovesToBack, MovesAfterItem, MovesRangeToFront, MovesRangeToBack, MovesRangeAfter, JoinsLists, SplitsList, RemovesListItem, RemovesList}
 
--- What a call that succeeded did, with the document or the paragraph. Calls that fail change
--- nothing.
+-- A call that succeeded; others change nothing.
 pub data Change (Gen : Type 0) : Type 0 where
   creates : (d : ℕ × Gen) → Change Gen
   inserts : (p : ℕ × Gen) → Change Gen
@@ -36,7 +35,7 @@ module _ {A Gen T : Type 0} {view : A → ArenaView Gen (Entry T)} {entry : A �
   Makes old (removes_document d) new = (paragraphs : List (Item Gen T)) × IsListRemoved state interlinks old new pointers.following d paragraphs
   Makes old grows new = (entry new ≡ entry old) × (interlinks new ≡ interlinks old)
 
-  -- What the contract of each call states where it succeeds is a change.
+  -- The contract of each call that succeeds states its change.
   pub record CallsMakeChanges {H : Type 0} (key : H → ℕ × Gen) : Type 0 where
     pub new_list : (greatest : ℕ) (old new : A) (d : H) → CreatesList state interlinks key greatest old (Ok d) new → Makes old (creates (key d)) new
     pub push_front : (greatest : ℕ) (old new : A) (d p : P) (t : T) → PushesFront state interlinks pointers.key greatest old d t (Ok p) new → Makes old (inserts (pointers.key p)) new
@@ -56,12 +55,12 @@ module _ {A Gen T : Type 0} {view : A → ArenaView Gen (Entry T)} {entry : A �
     pub remove_list : (old new : A) (d : ℕ × Gen) (result : InvalidationResult ℕ) → IsSome (value_within result) → RemovesList state interlinks pointers.wraps pointers.following old d result new → Makes old (removes_document d) new
     pub reserve : (greatest additional : ℕ) (old new : A) (done : Result Unit ReallocationError) → ReservesMore state interlinks greatest additional old done new → Makes old grows new
 
-  -- Changes one after another. In each state, each paragraph is in exactly one document.
+  -- Changes in order; in each state, each paragraph is in exactly one document.
   abbrev pub History : A → List (Change Gen) → A → Type 0
   History old [] new = AllInLists state interlinks old × (new ≡ old)
   History old (change ∷ changes) new = AllInLists state interlinks old × (mid : A) × Makes old change mid × History mid changes new
 
-  -- The change removes the paragraph `p`, alone or with its document.
+  -- The change removes `p`, alone or with its document.
   abbrev pub Removes : A → Change Gen → ℕ × Gen → Type 0
   Removes old (creates d) p = ⊥
   Removes old (inserts q) p = ⊥
@@ -76,8 +75,8 @@ module _ {A Gen T : Type 0} {view : A → ArenaView Gen (Entry T)} {entry : A �
   OneRemoves old [] new history p = ⊥
   OneRemoves old (change ∷ changes) new history p = Removes old change p ⊎ OneRemoves history.1 changes new history.3 p
 
-  -- After any calls, each paragraph that was there is in exactly one document, at one place, unless
-  -- a call removed it.
+  -- After any calls, each earlier paragraph is in exactly one document, at one place, unless a call
+  -- removed it.
   abbrev pub CallsKeepParagraphs : Type 0
   CallsKeepParagraphs = (old new : A) (changes : List (Change Gen)) (p : ℕ × Gen) (history : History old changes new) → IsItem (entry old) p
       → OneRemoves old changes new history p ⊎ ((t : T) × HasPlace state interlinks new p t × AllInLists state interlinks new)

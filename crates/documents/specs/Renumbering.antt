@@ -1,4 +1,4 @@
--- Renumberings of documents: each keeps its paragraphs, in order, under their new pointers.
+-- Each document keeps its paragraphs, in order, under new pointers.
 use Rattle.std.specs.Prelude.{◌≡◌, ℕ, List, Option, Some}
 use Rattle.chain_laws.specs.Chains.{LinkMap}
 use Rattle.arena_traits.specs.Entries.{ArenaView, ArenaState}
@@ -8,7 +8,7 @@ use Rattle.linked_lists.specs.declared.entry.Entry.{Entry}
 use Rattle.linked_lists.specs.LinkedLists.{IsList}
 
 module _ {A Gen T : Type 0} {view : A → ArenaView Gen (Entry T)} {entry : A → ℕ → Option (Gen × Entry T)} (state : (a : A) → ArenaState (view a) (entry a)) (interlinks : A → LinkMap) (old new : A) (move : Moves Gen) where
-  -- The document of `d` has a new handle, and its paragraphs have new pointers.
+  -- The handle and the paragraphs of `d` have new pointers.
   pub record IsDocumentMoved (d : ℕ × Gen) (paragraphs : List (Item Gen T)) : Type 0 where
     pub handle : ℕ × Gen
     pub handle_moved : move d ≡ Some handle

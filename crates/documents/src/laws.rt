@@ -13,8 +13,8 @@ pub fn calls_make_changes<P: PtrKey, T: Drop, A: ChainArenaTrait<P, Entry<T>>>()
         (λ (d : ListHandle P P.Inx P.Gen P.Inx.Word). P.key d.head) }
 {}
 
-/// States that no paragraph is lost: after any list of calls, each paragraph that was there is in
-/// exactly one document, at one place, unless a call removed it, alone or with its document.
+/// States that after any calls each earlier paragraph is in exactly one document, at one place,
+/// unless a call removed it, alone or with its document.
 pub fn calls_keep_paragraphs<P: PtrKey, T: Drop, A: ChainArenaTrait<P, Entry<T>>>()
     ensures { CallsKeepParagraphs A.state A.interlinks ⟦<P as AnyPointer>⟧.pointers }
 {}

@@ -1,6 +1,4 @@
-//! Ordered documents that share one arena of links.
-//!
-//! Documents are linked lists of paragraphs that can be renumbered.
+//! Documents in one arena: linked lists of paragraphs that can be renumbered.
 #![tactic(auto)]
 
 mod laws;

@@ -14,14 +14,13 @@ use std::alloc::{AllocError, Global};
 
 /// Renumbers all documents and returns the new pointer of each handle and paragraph.
 ///
-/// The documents are in runs of indexes, one after another from index 1, each with its paragraphs in
-/// order. Replace each handle and pointer that you keep (`moved_document`,
-/// `Renumbering::new_pointer`): an old one may point to another paragraph once the generation
-/// counter wraps.
+/// The documents are in runs of indexes, one after another from index 1, each with its paragraphs
+/// in order. Replace all handles and pointers (`moved_document`, `Renumbering::new_pointer`): an
+/// old one may point to another paragraph once the generation counter wraps.
 ///
 /// # Errors
 ///
-/// - `AllocError`: an allocation failed. Nothing changes then.
+/// - `AllocError`: an allocation failed; nothing changes.
 pub fn renumber<P: PtrKey, T: Drop, A: RenumberChainArenaTrait<P, Entry<T>> + Drop>(
     documents: &mut Documents<P, T, A>,
     alloc: Global,
@@ -38,7 +37,7 @@ pub fn renumber<P: PtrKey, T: Drop, A: RenumberChainArenaTrait<P, Entry<T>> + Dr
     moved
 }
 
-/// Returns the new handle of a document that was renumbered, or `None` if there is none.
+/// Returns the new handle of a renumbered document, or `None` if there is none.
 pub fn moved_document<P: PtrKey>(moved: &Renumbering<P>, d: Document<P>) -> Option<Document<P>>
     ensures { option_map (λ e. P.key e.head) result ≡ new_key_of P.key P.Gen.same moved.now
         (P.key d.head) }
