@@ -1,10 +1,10 @@
 -- What each change does to an item.
-use Rattle.std.proofs.Common.{◌≡◌, ◌≢◌, ℕ, inl, inr, ⊎_elim, List, [], ◌∷◌, ◌++◌, Option, None, Some, refl, sym, ap, ◌∙◌, subst}
-use Rattle.std.specs.Prelude.{◌⊎◌, is_some, true}
+use Rattle.std.proofs.Common.{◌≡◌, ℕ, inl, inr, ⊎_elim, List, [], ◌∷◌, ◌++◌, Option, sym, ap, ◌∙◌, subst}
+use Rattle.std.specs.Prelude.{◌⊎◌, is_some}
 use Rattle.std.specs.Option.{option_map}
 use Rattle.std.proofs.lemmas.Bool.{cases_eq}
 use Rattle.arena_core.specs.PointerKinds.{PointerKind}
-use Rattle.chain_laws.specs.Chains.{LinkMap, IsMember}
+use Rattle.chain_laws.specs.Chains.{LinkMap}
 use Rattle.chain_laws.proofs.ListLemmas.Members.{IsMember-or_not, IsMember-parts}
 use Rattle.arena_traits.specs.Entries.{ArenaView, ArenaState}
 use Rattle.arena_traits.specs.CallOutcomes.{IsEntryInserted}
@@ -13,7 +13,7 @@ use Rattle.chain_lists.specs.Lists.{Item, indexes}
 use Rattle.chain_lists.proofs.ItemListLemmas.{same_pointer}
 use Rattle.linked_lists.specs.declared.entry.Entry.{Entry}
 use Rattle.linked_lists.specs.declared.entry.Entry.TheVariants as entries
-use Rattle.linked_lists.specs.LinkedLists.{HasItem, IsItem, IsList, IsInListOf, ValueBecomes, LeavesList, IsListRemoved}
+use Rattle.linked_lists.specs.LinkedLists.{IsItem, IsList, IsInListOf, ValueBecomes, LeavesList, IsListRemoved}
 use Rattle.linked_lists.proofs.ListLemmas.{item_valid, head_or_item, ring_has, placed}
 
 module _ {A Gen T : Type 0} {view : A → ArenaView Gen (Entry T)} {entry : A → ℕ → Option (Gen × Entry T)} (state : (a : A) → ArenaState (view a) (entry a)) (interlinks : A → LinkMap) (old new : A) (p : ℕ × Gen) (item : IsItem (entry old) p) where

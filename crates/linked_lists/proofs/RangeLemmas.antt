@@ -1,23 +1,21 @@
 -- Moves of a range directly after another link.
-use Rattle.std.proofs.Common.{◌≡◌, ◌≢◌, ℕ, inl, inr, ⊎_elim, List, [], ◌∷◌, ◌++◌, map, Option, None, Some, refl, sym, ap, ◌∙◌, subst, append_assoc}
-use Rattle.std.specs.Prelude.{◌⊎◌, is_some, true, IfNone}
-use Rattle.std.proofs.lemmas.List.{map-append, append-nil}
+use Rattle.std.proofs.Common.{◌≡◌, ◌≢◌, ℕ, inl, inr, ⊎_elim, List, [], ◌∷◌, ◌++◌, map, Option, Some, refl, sym, ap, ◌∙◌, subst, append_assoc}
+use Rattle.std.specs.Prelude.{◌⊎◌, is_some, true}
+use Rattle.std.proofs.lemmas.List.{map-append}
 use Rattle.chain_laws.specs.Chains.{LinkMap, cyclic, IsChain, IsMember}
 use Rattle.chain_laws.specs.Splices.{Splices, IsRun}
 use Rattle.chain_laws.proofs.InterlinkLemmas.Inverses.{one_some}
 use Rattle.arena_traits.specs.Arena.{IsValid}
 use Rattle.arena_traits.specs.Entries.{ArenaView, ArenaState, index_of, first_key, last_key}
-use Rattle.chain_links.specs.CallEffects.{SplicesAfter}
-use Rattle.chain_links.specs.ChainArena.{CanSplice}
 use Rattle.chain_lists.specs.Lists.{Item, AreEntries, indexes, IsRing}
-use Rattle.chain_lists.proofs.ItemListLemmas.{are_stored-append, are_stored-left, are_stored-right, same_pointer, among-left, among-right, among-parts, last_apart, last_is, last_key-cons}
+use Rattle.chain_lists.proofs.ItemListLemmas.{are_stored-append, are_stored-left, are_stored-right, among-left, among-right, among-parts, last_apart, last_is, last_key-cons}
 use Rattle.chain_lists.proofs.ListChangeLemmas.{parts, whole, stays}
 use Rattle.linked_lists.specs.declared.entry.Entry.{Entry}
 use Rattle.linked_lists.specs.declared.entry.Entry.TheVariants as entries
-use Rattle.linked_lists.specs.LinkedLists.{as_item, ring_of, pointers_of, HasEnds, IsHandle, IsItem, IsList, IsNoneOf, EachInList, Becomes, KeepsOthers, KeepsEntries, IsRangeWithout, IsRangeMoved, RangeAtStart, RangeAtEnd, RangeAfter, MovesRangeToFront, MovesRangeToBack, MovesRangeAfter}
+use Rattle.linked_lists.specs.LinkedLists.{as_item, ring_of, pointers_of, HasEnds, IsItem, IsList, IsNoneOf, EachInList, Becomes, KeepsOthers, KeepsEntries, IsRangeWithout, IsRangeMoved}
 use Rattle.linked_lists.proofs.RingLemmas.{ring_rotated}
-use Rattle.linked_lists.proofs.ListLemmas.{ring_parts, ring_has, ring_member, ring_more, same_handle, same_list, list_of, place_of, item_of, item_valid, head_valid, each_kept, each_kept_two}
-use Rattle.linked_lists.proofs.MoveLemmas.{in_one_part, handle_or_other, entries_kept}
+use Rattle.linked_lists.proofs.ListLemmas.{ring_parts, ring_has, ring_member, ring_more, same_handle, item_valid, each_kept, each_kept_two}
+use Rattle.linked_lists.proofs.MoveLemmas.{in_one_part}
 use Rattle.linked_lists.proofs.RunLemmas.{is_run, first_among, last_among, run_leaves, run_comes, run_elsewhere}
 
 module _ {Gen T : Type 0} where

@@ -1,6 +1,6 @@
 -- Calls that move a range; each entry stays in a list.
 use Rattle.std.proofs.Common.{◌≡◌, ◌≢◌, ℕ, inl, inr, ⊎_elim, List, [], ◌∷◌, ◌++◌, map, Option, None, Some, refl, sym, ap, ◌∙◌, subst, append_assoc}
-use Rattle.std.specs.Prelude.{◌⊎◌, is_some, true, IfNone}
+use Rattle.std.specs.Prelude.{◌⊎◌, IfNone}
 use Rattle.std.proofs.lemmas.List.{map-append, append-nil}
 use Rattle.chain_laws.specs.Chains.{LinkMap, IsMember, AreDistinct}
 use Rattle.chain_laws.specs.Splices.{Splices}
@@ -14,7 +14,7 @@ use Rattle.chain_lists.specs.Lists.{Item, AreEntries, indexes}
 use Rattle.chain_lists.proofs.ItemListLemmas.{are_stored-left, are_stored-right, same_pointer, among-left, among-right, among-parts, last_apart, last_is}
 use Rattle.linked_lists.specs.declared.entry.Entry.{Entry}
 use Rattle.linked_lists.specs.declared.entry.Entry.TheVariants as entries
-use Rattle.linked_lists.specs.LinkedLists.{as_item, ring_of, pointers_of, HasEnds, IsHandle, IsItem, IsList, IsNoneOf, EachInList, IsRangeWithout, IsRangeMoved, RangeAtStart, RangeAtEnd, RangeAfter, MovesRangeToFront, MovesRangeToBack, MovesRangeAfter}
+use Rattle.linked_lists.specs.LinkedLists.{as_item, ring_of, pointers_of, IsHandle, IsItem, IsList, IsNoneOf, EachInList, IsRangeWithout, RangeAtStart, RangeAtEnd, RangeAfter, MovesRangeToFront, MovesRangeToBack, MovesRangeAfter}
 use Rattle.linked_lists.proofs.ListLemmas.{indexes-items, ring_parts, ring_has, ring_member, same_handle, same_list, list_of, place_of, item_valid, head_valid}
 use Rattle.linked_lists.proofs.MoveLemmas.{in_one_part, handle_or_other, entries_kept, ring_last}
 use Rattle.linked_lists.proofs.RunLemmas.{last_among}

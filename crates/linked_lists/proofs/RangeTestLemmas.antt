@@ -1,20 +1,18 @@
 -- The ends of a range, by the walk from the first one.
 use Rattle.std.proofs.Common.{◌≡◌, ◌≢◌, ℕ, inl, inr, ⊎_elim, List, [], ◌∷◌, ◌++◌, map, Option, None, Some, refl, sym, ap, ◌∙◌, subst, append_assoc}
-use Rattle.std.specs.Prelude.{◌⊎◌, ◌↔◌, Bool, true, false, IsTrue, is_some}
+use Rattle.std.specs.Prelude.{◌⊎◌, is_some}
 use Rattle.std.proofs.lemmas.List.{map-append, append-nil}
-use Rattle.chain_laws.specs.Chains.{LinkMap, cyclic, IsMember, AreDistinct}
+use Rattle.chain_laws.specs.Chains.{LinkMap, IsMember, AreDistinct}
 use Rattle.chain_laws.specs.Walks.{IsWalk, Walker, of_cyclic, step_of, passes_ahead}
 use Rattle.chain_laws.proofs.WalkLemmas.Steps.{step_ahead}
 use Rattle.chain_laws.proofs.WalkLemmas.Walker.{no_other_walk}
 use Rattle.chain_laws.proofs.InterlinkLemmas.Inverses.{one_some}
 use Rattle.arena_traits.specs.Arena.{IsValid}
-use Rattle.arena_traits.specs.Entries.{ArenaView, ArenaState, first_key, last_key}
+use Rattle.arena_traits.specs.Entries.{ArenaView, ArenaState, first_key}
 use Rattle.chain_lists.specs.Lists.{Item, AreEntries, indexes, IsRing}
 use Rattle.chain_lists.proofs.ItemListLemmas.{are_stored-left, are_stored-right, same_pointer, among-left, apart, last_is}
 use Rattle.linked_lists.specs.declared.entry.Entry.{Entry}
-use Rattle.linked_lists.specs.declared.entry.Entry.TheVariants as entries
-use Rattle.linked_lists.specs.LinkedLists.{as_item, ring_of, pointers_of, HasEnds, IsHandle, IsItem, IsList, IsNoneOf, AllInLists, IsRangeWithout}
-use Rattle.linked_lists.specs.RingCalls.{TestsRange}
+use Rattle.linked_lists.specs.LinkedLists.{as_item, ring_of, pointers_of, IsHandle, IsList, IsNoneOf, IsRangeWithout}
 use Rattle.linked_lists.proofs.RingLemmas.{ring_rotated}
 use Rattle.linked_lists.proofs.ListLemmas.{ring_parts, ring_has, head_valid, item_valid, head_or_item, one_list}
 use Rattle.linked_lists.proofs.InsertionLemmas.{has_item}

@@ -1,5 +1,5 @@
 -- What changes do to a task.
-use Rattle.std.proofs.Common.{◌≡◌, ℕ, inl, inr, ⊎_elim, List, [], ◌∷◌, Option, sym, subst}
+use Rattle.std.proofs.Common.{ℕ, inl, inr, ⊎_elim, [], ◌∷◌, Option, sym, subst}
 use Rattle.std.specs.Prelude.{◌⊎◌}
 use Rattle.arena_core.specs.PointerKinds.{PointerKind}
 use Rattle.chain_laws.specs.Chains.{LinkMap}

@@ -1,5 +1,4 @@
 use Rattle.std.proofs.Common.{◌≡◌, None, refl, sym, ap, subst}
-use Rattle.std.specs.Prelude.{IsTrue}
 use Rattle.chain_laws.specs.Walks.{IsWalk, passes_ahead}
 use Rattle.chain_laws.proofs.WalkLemmas.Steps.{first_ahead}
 use Rattle.linked_lists.proofs.RangeTestLemmas.{none_passed, never_ends, one_more_passed, no_range_at_head, no_range_at_q, range_at_last}
