@@ -1,7 +1,18 @@
-//! Tests of linked lists and of run queues.
+//! Tests of linked lists, run queues and documents: random calls beside a model, values, capacities,
+//! renumbering, and a play list as an example.
 #![tactic(auto)]
 
 #[cfg(test)]
-mod queues;
+mod capacities;
 #[cfg(test)]
-mod tests;
+mod model;
+#[cfg(test)]
+mod owned_values;
+#[cfg(test)]
+mod play_list;
+#[cfg(test)]
+mod random_lists;
+#[cfg(test)]
+mod random_queues;
+#[cfg(test)]
+mod renumbering;

@@ -5,7 +5,7 @@ use arena_base::ArenaSlot;
 use arena_ptr::{ChainInsertionError, HeapStack, PtrKey, SlotStack, ToolPtr};
 use chain_arena::{ChainArena, LinkNoGen};
 use chain_traits::ChainArenaTrait;
-use linked_lists::{Entry, LinkedLists};
+use linked_lists::{Entry, LinkedLists, ListHandle};
 use std::alloc::{AllocError, Global};
 use std::process::Abort;
 use std::rc::Rc;
@@ -25,7 +25,7 @@ fn are_left(shared: &Value, count: usize) -> bool {
 fn inserted<P: PtrKey, A: ChainArenaTrait<P, Entry<Value>> + Drop>(
     lists: &mut LinkedLists<P, Value, A>,
     call: u32,
-    (p, h): (P, P),
+    (p, h): (P, ListHandle<P>),
     value: Value,
 ) -> Result<P, ChainInsertionError> {
     match call {
@@ -56,7 +56,7 @@ fn insertions_hold<P: PtrKey, A: ChainArenaTrait<P, Entry<Value>> + Drop>(
     lists: &mut LinkedLists<P, Value, A>,
     shared: &Value,
     call: u32,
-    places: (P, P),
+    places: (P, ListHandle<P>),
     items: &mut Vec<P>,
 ) -> Result<bool, AllocError> {
     let mut refused = false;
@@ -77,8 +77,9 @@ fn refusals_hold<P: PtrKey, A: ChainArenaTrait<P, Entry<Value>> + Drop>(
     stale: P,
     count: usize,
 ) -> Result<bool, AllocError> {
+    let places = (stale, ListHandle { head: stale });
     for call in 0..4 {
-        if inserted(lists, call, (stale, stale), shared.clone()?).is_ok() {
+        if inserted(lists, call, places, shared.clone()?).is_ok() {
             return Ok(false);
         }
     }
@@ -105,7 +106,7 @@ fn returns_hold<P: PtrKey, A: ChainArenaTrait<P, Entry<Value>> + Drop>(
 // Creates a list, at the second attempt if the first is refused memory.
 fn list_of_two_attempts<P: PtrKey, A: ChainArenaTrait<P, Entry<Value>> + Drop>(
     lists: &mut LinkedLists<P, Value, A>,
-) -> Option<P> {
+) -> Option<ListHandle<P>> {
     match lists.new_list() {
         Ok(h) => Some(h),
         Err(_) => lists.new_list().ok(),
@@ -138,7 +139,7 @@ fn values_hold<P: PtrKey, A: ChainArenaTrait<P, Entry<Value>> + Drop>(
     let Some(h) = list_of_two_attempts(&mut lists) else {
         return Ok(false);
     };
-    insertions_hold(&mut lists, shared, 3, (h, h), &mut items)?;
+    insertions_hold(&mut lists, shared, 3, (h.head, h), &mut items)?;
     let Some((p, q)) = first_two(items.as_slice()) else {
         return Ok(false);
     };

@@ -1,10 +1,12 @@
 //! Upper bounds of capacities, and a maximum.
 
 use arena_base::ArenaSlot;
-use arena_ptr::{HeapStack, LimitedStack, PtrKey, ReallocationError, SlotStack, ToolPtr};
+use arena_ptr::{
+    ChainInsertionError, HeapStack, LimitedStack, PtrKey, ReallocationError, SlotStack, ToolPtr,
+};
 use chain_arena::{ChainArena, LinkNoGen};
 use chain_traits::ChainArenaTrait;
-use linked_lists::{Entry, LinkedLists};
+use linked_lists::{Entry, LinkedLists, ListHandle};
 use std::alloc::Global;
 use std::process::Abort;
 use test_types::EightSlots;
@@ -19,7 +21,7 @@ fn double(n: usize) -> usize {
 // inserted.
 fn insertions_are_bounded<P: PtrKey, A: ChainArenaTrait<P, Entry<u32>> + Drop>(
     lists: &mut LinkedLists<P, u32, A>,
-    h: P,
+    h: ListHandle<P>,
 ) -> bool {
     for n in 0..500 {
         if lists.push_back(h, n).is_err() {
@@ -50,10 +52,10 @@ fn reservation_is_bounded<P: PtrKey, A: ChainArenaTrait<P, Entry<u32>> + Drop>(
 // Returns whether capacities are bounded, for an arena without a maximum.
 fn capacities_are_bounded<P: PtrKey, A: ChainArenaTrait<P, Entry<u32>> + Drop>(
     alloc: Global,
+    lists: &mut LinkedLists<P, u32, A>,
 ) -> bool {
-    let mut lists = LinkedLists::<P, u32, A>::new(alloc);
     for additional in [5, 8, 9, 100, 100, 101, 1_000] {
-        if !reservation_is_bounded(&mut lists, additional) {
+        if !reservation_is_bounded(lists, additional) {
             return false;
         }
     }
@@ -76,34 +78,59 @@ fn is_beyond<P: PtrKey, A: ChainArenaTrait<P, Entry<u32>> + Drop>(
         && lists.capacity() == capacity
 }
 
+// Returns whether six more links fit, and no further item or list, nor a split.
+fn six_links_fit<P: PtrKey, A: ChainArenaTrait<P, Entry<u32>> + Drop>(
+    lists: &mut LinkedLists<P, u32, A>,
+    h: ListHandle<P>,
+    p: P,
+) -> bool {
+    for n in 0..6 {
+        if lists.push_back(h, n).is_err() {
+            return false;
+        }
+    }
+    lists.push_front(h, 6).err() == Some(ChainInsertionError::BeyondMaxCapacity)
+        && lists.new_list().err() == Some(ReallocationError::BeyondMaxCapacity)
+        && lists.split_at(p).err() == Some(ReallocationError::BeyondMaxCapacity)
+        && lists.len() == 8
+}
+
 // Returns whether reservations within a maximum of eight succeed, and all others are refused.
-fn maximum_holds<P: PtrKey, A: ChainArenaTrait<P, Entry<u32>> + Drop>(alloc: Global) -> bool {
+fn maximum_holds<P: PtrKey, A: ChainArenaTrait<P, Entry<u32>> + Drop>(
+    lists: &mut LinkedLists<P, u32, A>,
+) -> Result<bool, ChainInsertionError> {
+    let before = is_beyond(lists, 9) && lists.reserve(3).is_ok() && lists.capacity() >= 3;
+    let h = lists.new_list()?;
+    let p = lists.push_back(h, 7)?;
+    let beyond = is_beyond(lists, 7) && is_beyond(lists, usize::MAX);
+    let within = lists.reserve(6).is_ok() && lists.capacity() == 8 && is_beyond(lists, 7);
+    Ok(before && beyond && within && six_links_fit(lists, h, p))
+}
+
+// Returns whether capacities are bounded as the maximum states.
+fn bounds_hold<P: PtrKey, A: ChainArenaTrait<P, Entry<u32>> + Drop>(
+    alloc: Global,
+    maximum: Option<usize>,
+) -> bool {
     let mut lists = LinkedLists::<P, u32, A>::new(alloc);
-    let before = is_beyond(&mut lists, 9) && lists.reserve(3).is_ok() && lists.capacity() >= 3;
-    let Ok(h) = lists.new_list() else {
-        return false;
-    };
-    let pushed = lists.push_back(h, 7).is_ok();
-    let beyond = is_beyond(&mut lists, 7) && is_beyond(&mut lists, usize::MAX);
-    let within = lists.reserve(6).is_ok() && lists.capacity() == 8;
-    before && pushed && beyond && within && is_beyond(&mut lists, 7) && lists.is_list(h)
+    let same = lists.max_capacity() == maximum;
+    match maximum {
+        Some(_) => same && maximum_holds(&mut lists) == Ok(true),
+        None => same && capacities_are_bounded(alloc, &mut lists),
+    }
 }
 
-// Only these bodies name the arena, since naming it is the cost.
-fn is_bounded<S: SlotStack<Item = Slot>>(alloc: Global) -> bool {
-    capacities_are_bounded::<ToolPtr, ChainArena<ToolPtr, Entry<u32>, S>>(alloc)
-}
-
-fn has_maximum<S: SlotStack<Item = Slot>>(alloc: Global) -> bool {
-    maximum_holds::<ToolPtr, ChainArena<ToolPtr, Entry<u32>, S>>(alloc)
+// Only this body names the arena, since naming it is the cost.
+fn over_stack<S: SlotStack<Item = Slot>>(rt: &impl Abort, alloc: Global, maximum: Option<usize>) {
+    assert!(rt; bounds_hold::<ToolPtr, ChainArena<ToolPtr, Entry<u32>, S>>(alloc, maximum));
 }
 
 #[test]
 fn capacities_have_upper_bounds(rt: HostRuntime) {
-    assert!(rt; is_bounded::<HeapStack<Slot>>(rt.alloc()));
+    over_stack::<HeapStack<Slot>>(&rt, rt.alloc(), None);
 }
 
 #[test]
-fn a_maximum_limits_reservations(rt: HostRuntime) {
-    assert!(rt; has_maximum::<EightSlots<LimitedStack<Slot>>>(rt.alloc()));
+fn a_maximum_limits_capacities(rt: HostRuntime) {
+    over_stack::<EightSlots<LimitedStack<Slot>>>(&rt, rt.alloc(), Some(8));
 }
