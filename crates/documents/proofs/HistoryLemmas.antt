@@ -1,5 +1,5 @@
 -- What changes do to a paragraph.
-use Rattle.std.proofs.Common.{◌≡◌, ℕ, inl, inr, ⊎_elim, List, [], ◌∷◌, Option, sym, subst}
+use Rattle.std.proofs.Common.{ℕ, inl, inr, ⊎_elim, [], ◌∷◌, Option, sym, subst}
 use Rattle.std.specs.Prelude.{◌⊎◌, Bool, IsSome}
 use Rattle.arena_core.specs.Invalidation.{value_within}
 use Rattle.arena_core.specs.PointerKinds.{PointerKind}
@@ -10,9 +10,9 @@ use Rattle.arena_traits.specs.Entries.{ArenaView, ArenaState}
 use Rattle.arena_traits.specs.CallOutcomes.{ReportsOverflow}
 use Rattle.linked_lists.specs.declared.entry.Entry.{Entry}
 use Rattle.linked_lists.specs.declared.entry.Entry.TheVariants as entries
-use Rattle.linked_lists.specs.LinkedLists.{IsItem, HasPlace, AllInLists}
+use Rattle.linked_lists.specs.LinkedLists.{IsItem, AllInLists}
 use Rattle.linked_lists.proofs.KeptItemLemmas.{kept_by_entries, kept_by_insertion, kept_by_value, removed_or_kept, removed_with_list_or_kept}
-use Rattle.documents.specs.Histories.{Change, creates, inserts, replaces, moves, removes, removes_document, grows, Makes, History, Removes, OneRemoves, CallsKeepParagraphs}
+use Rattle.documents.specs.Histories.{Change, creates, inserts, replaces, moves, removes, removes_document, grows, Makes, Removes, CallsKeepParagraphs}
 
 pub done_anyway : {X Gen : Type 0} (wraps : Gen → Bool) (counter : Option Gen) (invalid : Type 0) (done : X → Type 0) (r : InvalidationResult X) → IsSome (value_within r) → ReportsOverflow wraps counter invalid done r → (x : X) × done x
 done_anyway wraps counter invalid done InvalidPtr some is = absurd (cc)

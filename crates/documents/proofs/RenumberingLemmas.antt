@@ -1,7 +1,7 @@
 -- A renumbering moves the ring of each document.
 use Rattle.std.proofs.Common.{◌≡◌, ℕ, inl, inr, ⊎_elim, List, [], ◌∷◌, map, Option, None, Some, refl, sym, ap, ◌∙◌, subst}
 use Rattle.std.specs.Prelude.{is_some, true, IfOk, OnErr, Result, Ok, Err}
-use Rattle.chain_laws.specs.Chains.{LinkMap, cyclic, IsMember}
+use Rattle.chain_laws.specs.Chains.{LinkMap, IsMember}
 use Rattle.chain_laws.proofs.InterlinkLemmas.Inverses.{one_some}
 use Rattle.arena_traits.specs.Arena.{IsValid}
 use Rattle.arena_traits.specs.Entries.{ArenaView, ArenaState}
