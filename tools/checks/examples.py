@@ -4,14 +4,14 @@ Read from the pages and sources:
 
 - The lines of the example session of docs/CLI.md are `crates/chain_tool/sample`. They have the same responses in the script on which
   `rt ci` runs the program, `crates/chain_tool/stdin` and `stdout`.
-- README's diagram and its example without the test are in the docs of `crates/chain_arena`.
+- README's diagram is in the docs of `crates/chain_arena`.
 - GUIDE's example that sorts a chain is in a doc comment.
 - The examples of docs/PROOF_GUIDE.md are in `crates/chain_examples`, which `rt ci` proves.
 
 Run by `rt try`, without proofs, in copies of this repository:
 
-- README's example passes its test. So do the examples in the doc comments of calls: each is the body of a test with the runtime `rt`
-  and the allocator `alloc`.
+- README's example passes its test, and that of the docs of `crates/chain_arena` returns true. So do the examples in the doc comments of
+  calls: each is the body of a test with the runtime `rt` and the allocator `alloc`.
 - README's commands succeed, other than the gate."""
 import os
 import re
@@ -66,18 +66,15 @@ def is_in_doc_comments(code):
     return all(line.split() in lines for line in code.splitlines())
 
 
-def is_in_crate_docs(page):
-    docs = "".join(f"{line[4:]}\n" for line in read("crates/chain_arena/src/lib.rt").splitlines() if line.startswith("//!"))
-    # Leaves out the test, since a crate whose files name a test has to have one.
-    code = re.search(r"```rust\n.*?^}\n", page, flags=re.S | re.M)[0]
-    return code_blocks(page, "text")[0] in docs and code in docs
+def crate_docs():
+    return "".join(f"{line[4:]}\n" for line in read("crates/chain_arena/src/lib.rt").splitlines() if line.startswith("//!"))
 
 
 def problems():
     if not session_is_sample():
         yield "docs/CLI.md: the example session is not the sample of the program, with the responses of its script"
-    if not is_in_crate_docs(read("README.md")):
-        yield "README.md: the diagram or the example is not in the docs of chain_arena"
+    if code_blocks(read("README.md"), "text")[0] not in crate_docs():
+        yield "README.md: the diagram is not in the docs of chain_arena"
     sorts = [it for it in code_blocks(read("docs/GUIDE.md"), "rust") if "arrange_chain" in it]
     if not sorts or not all(map(is_in_doc_comments, sorts)):
         yield "docs/GUIDE.md: the example that sorts is not in a doc comment"
@@ -96,6 +93,12 @@ def doc_tests(examples):
         for k, code in enumerate(examples, 1)
     ]
     return "\n".join([DOC_TESTS, *tests])
+
+
+def with_test(code):
+    """Returns the code with a test that its one function, of an allocator, returns true."""
+    name = re.search(r"pub fn (\w+)", code)[1]
+    return f"{code}\n#[test]\nfn example(rt: HostRuntime) {{\n    assert!(rt; {name}(rt.alloc()) == Ok(true));\n}}\n"
 
 
 def passes_tests(line, code, count):
@@ -135,6 +138,8 @@ def run_problems():
     page, examples = read("README.md"), doc_comment_examples()
     if not passes_tests(crate_line(page), code_blocks(page, "rust")[0], 1):
         yield "README.md: the example does not pass its test"
+    if not passes_tests(crate_line(page), with_test(code_blocks(crate_docs(), "rust")[0]), 1):
+        yield "crates/chain_arena/src/lib.rt: the example does not return true"
     if not examples or not passes_tests(f"{crate_line(page)} chain_traits", doc_tests(examples), len(examples)):
         yield "an example of a doc comment does not pass its test"
     if not commands_succeed(page):
