@@ -5,13 +5,13 @@ Read from the pages and sources:
 - The lines of the example session of docs/CLI.md are `crates/chain_tool/sample`. They have the same responses in the script on which
   `rt ci` runs the program, `crates/chain_tool/stdin` and `stdout`.
 - README's diagram is in the docs of `crates/chain_arena`.
-- GUIDE's example that sorts a chain is in a doc comment.
 - The examples of docs/PROOF_GUIDE.md are in `crates/chain_examples`, which `rt ci` proves.
 
 Run by `rt try`, without proofs, in copies of this repository:
 
 - README's example passes its test, and that of the docs of `crates/chain_arena` returns true. So do the examples in the doc comments of
   calls: each is the body of a test with the runtime `rt` and the allocator `alloc`.
+- So do GUIDE's examples under 'I want to', after the chains that they begin with; one with an `fn` stands beside them.
 - README's commands succeed, other than the gate."""
 import os
 import re
@@ -26,11 +26,20 @@ from sources.pages import code_blocks, read, table_rows
 # Before the tests made from doc comments.
 DOC_TESTS = """#![tactic(auto)]
 
-use arena_base::ArenaTrait;
-use arena_ptr::{ChainInsertionError, ToolPtr};
-use chain_arena::{ChainArena, ChainArenaTrait, LinkInsertKind};
+use arena_base::{ArenaSlot, ArenaTrait};
+use arena_ptr::{ChainInsertionError, LimitedStack, PtrKey, SetMaxCapacity, ToolPtr};
+use chain_arena::{ChainArena, ChainArenaTrait, LinkInsertKind, LinkNoGen};
 use chain_traits::walks::for_each_in_chain;
 use std::alloc::Global;
+"""
+
+# The chains that GUIDE's examples begin with.
+GUIDE_CHAINS = """let mut arena: ChainArena<ToolPtr, u32> = ChainArena::new(alloc);
+let a = arena.insert_reallocating(LinkInsertKind::Disconnected, 1)?;
+let b = arena.insert_reallocating(LinkInsertKind::ChainEnd(a), 2)?;
+let c = arena.insert_reallocating(LinkInsertKind::ChainEnd(b), 3)?;
+let d = arena.insert_reallocating(LinkInsertKind::SingleLinkCyclic, 4)?;
+let e = arena.insert_reallocating(LinkInsertKind::NextTo(d), 5)?;
 """
 
 
@@ -60,12 +69,6 @@ def doc_comment_examples():
     return [code for path in paths for it in items_in_file(path) for code in code_blocks(it.docs, "rust")]
 
 
-def is_in_doc_comments(code):
-    """Returns whether the lines of an example are in doc comments, up to comments."""
-    lines = [line.partition("//")[0].split() for it in doc_comment_examples() for line in it.splitlines()]
-    return all(line.split() in lines for line in code.splitlines())
-
-
 def crate_docs():
     return "".join(f"{line[4:]}\n" for line in read("crates/chain_arena/src/lib.rt").splitlines() if line.startswith("//!"))
 
@@ -75,9 +78,6 @@ def problems():
         yield "docs/CLI.md: the example session is not the sample of the program, with the responses of its script"
     if code_blocks(read("README.md"), "text")[0] not in crate_docs():
         yield "README.md: the diagram is not in the docs of chain_arena"
-    sorts = [it for it in code_blocks(read("docs/GUIDE.md"), "rust") if "arrange_chain" in it]
-    if not sorts or not all(map(is_in_doc_comments, sorts)):
-        yield "docs/GUIDE.md: the example that sorts is not in a doc comment"
     tutorial = read("crates/chain_examples/src/tutorial.rt")
     for it in code_blocks(read("docs/PROOF_GUIDE.md"), "rust"):
         if it not in tutorial:
@@ -87,12 +87,20 @@ def problems():
 # ---------------------------------------------------------------- with the toolchain
 
 
-def doc_tests(examples):
+def guide_examples():
+    """Returns GUIDE's examples under 'I want to': the bodies of tests, and the items beside them."""
+    page = read("docs/GUIDE.md")
+    codes = code_blocks(page[page.index("## I want to") : page.index("## Errors")], "rust")
+    items = [it for it in codes if re.search(r"^fn ", it, re.M)]
+    return [GUIDE_CHAINS + it for it in codes if it not in items], items
+
+
+def doc_tests(examples, items=()):
     tests = [
         f"#[test]\nfn example_{k}(rt: HostRuntime) -> Result<(), ChainInsertionError> {{\n    let alloc: Global = rt.alloc();\n{textwrap.indent(code, '    ')}    Ok(())\n}}\n"
         for k, code in enumerate(examples, 1)
     ]
-    return "\n".join([DOC_TESTS, *tests])
+    return "\n".join([DOC_TESTS, *items, *tests])
 
 
 def with_test(code):
@@ -142,5 +150,8 @@ def run_problems():
         yield "crates/chain_arena/src/lib.rt: the example does not return true"
     if not examples or not passes_tests(f"{crate_line(page)} chain_traits", doc_tests(examples), len(examples)):
         yield "an example of a doc comment does not pass its test"
+    bodies, items = guide_examples()
+    if not passes_tests(f"{crate_line(page)} chain_traits", doc_tests(bodies, items), len(bodies)):
+        yield "docs/GUIDE.md: an example under 'I want to' does not pass its test"
     if not commands_succeed(page):
         yield "README.md: a command does not succeed, or the program does not print the responses of the session"
