@@ -1,1 +1,2 @@
 mod OwnerLemmas
+mod PlaceLemmas

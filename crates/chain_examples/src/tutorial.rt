@@ -12,11 +12,13 @@ ghost use Rattle.chain_links.specs.CallEffects.{IsConnected, IsRemoved};
 ghost use Rattle.chain_links.specs.ChainArena.{CanConnect};
 ghost use Rattle.chain_links.specs.Insertions.{InsertsLink};
 ghost use Rattle.chain_examples.specs.Owners.{SetsOwners};
+ghost use Rattle.chain_examples.specs.Places.{FindsPlace};
 
 use arena_ptr::{AnyPointer, ChainInsertionError, GenKey, InvalidationResult, InxKey, PtrKey};
+use arena_traits::Advancer;
 use chain_links::LinkInsertKind;
 use chain_traits::ChainArenaTrait;
-use chain_traits::walks::for_each_in_chain;
+use chain_traits::walks::{advancer_passes_the_walk, for_each_in_chain};
 
 /// Connects `p` to `q`, so that `q` is the link after `p`, and returns whether it succeeded.
 ///
@@ -108,6 +110,30 @@ pub fn after<P: PtrKey, T: Drop, A: ChainArenaTrait<P, T>>(arena: &A, p: P) -> O
         Some(link) => link.next(),
         None => None,
     }
+}
+
+/// Returns the place of `q` in the walk from `p`, from 0 on, or `None` if it is not there.
+pub fn place_in_walk<P: PtrKey, T: Drop, A: ChainArenaTrait<P, T>>(
+    arena: &A,
+    p: P,
+    q: P,
+) -> Option<usize>
+    ensures { FindsPlace (A.entry arena.now) (A.interlinks arena.now) (P.key p) (P.key q) result }
+{
+    advancer_passes_the_walk(arena, p);
+    arena.len();
+    let mut along = match arena.advancer_chain(p) {
+        Some(along) => along,
+        None => return None,
+    };
+    let mut n = 0;
+    while let Some(r) = along.advance(arena) {
+        if r.is_same(q) {
+            return Some(n);
+        }
+        n += 1;
+    }
+    None
 }
 
 /// Sets the owner of the chain of `p`; `None` if `p` is not valid.
