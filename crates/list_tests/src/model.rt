@@ -569,6 +569,14 @@ fn make_call<P: PtrKey>(
     }
 }
 
+// Returns the pointer of a reply, or an invalid one.
+fn pointer_in<P: PtrKey>(reply: &Reply<P>) -> P {
+    match reply {
+        Reply::Pointer(p) => *p,
+        _ => P::invalid(),
+    }
+}
+
 // Makes a call, and returns whether this is its reply.
 pub fn is_reply<P: PtrKey>(
     alloc: Global,
@@ -576,9 +584,6 @@ pub fn is_reply<P: PtrKey>(
     call: Call<P>,
     reply: Reply<P>,
 ) -> Result<bool, AllocError> {
-    let new = match reply {
-        Reply::Pointer(p) => p,
-        _ => P::invalid(),
-    };
+    let new = pointer_in(&reply);
     Ok(are_same_replies(reply, make_call(alloc, model, call, new)?))
 }

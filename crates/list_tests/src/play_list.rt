@@ -8,27 +8,32 @@ use documents::{Document, Documents, Entry};
 use std::alloc::Global;
 use std::process::Abort;
 
-type Slot = ArenaSlot<ToolPtr, LinkNoGen<ToolPtr, Entry<u32>>>;
+type Slot = ArenaSlot<ToolPtr, LinkNoGen<ToolPtr, Entry<Song>>>;
 
-// Songs are numbers.
+// A song, by its number.
 #[derive(Drop)]
-struct PlayList<P: PtrKey, A: ChainArenaTrait<P, Entry<u32>> + Drop> {
-    songs: Documents<P, u32, A>,
+struct Song {
+    number: u32,
+}
+
+#[derive(Drop)]
+struct PlayList<P: PtrKey, A: ChainArenaTrait<P, Entry<Song>> + Drop> {
+    songs: Documents<P, Song, A>,
     queue: Document<P>,
     played: Document<P>,
 }
 
-impl<P: PtrKey, A: ChainArenaTrait<P, Entry<u32>> + Drop> PlayList<P, A> {
+impl<P: PtrKey, A: ChainArenaTrait<P, Entry<Song>> + Drop> PlayList<P, A> {
     // Adds a song at the end of the queue.
-    fn add(&mut self, song: u32) -> Result<P, ChainInsertionError> {
-        self.songs.push_back(self.queue, song)
+    fn add(&mut self, number: u32) -> Result<P, ChainInsertionError> {
+        self.songs.push_back(self.queue, Song { number })
     }
 
     // Plays the first song of the queue, if there is one.
     fn play_next(&mut self) -> Option<u32> {
         let song = self.songs.first(self.queue)?;
         self.songs.move_to_back(song, self.played)?;
-        self.songs.get(song).copied()
+        Some(self.songs.get(song)?.number)
     }
 
     // Puts the song that was played last back to the front of the queue.
@@ -53,14 +58,16 @@ impl<P: PtrKey, A: ChainArenaTrait<P, Entry<u32>> + Drop> PlayList<P, A> {
 }
 
 // Adds the songs 1 to 4, and returns their pointers.
-fn add_four<P: PtrKey, A: ChainArenaTrait<P, Entry<u32>> + Drop>(
+fn add_four<P: PtrKey, A: ChainArenaTrait<P, Entry<Song>> + Drop>(
     list: &mut PlayList<P, A>,
 ) -> Result<(P, P, P, P), ChainInsertionError> {
     Ok((list.add(1)?, list.add(2)?, list.add(3)?, list.add(4)?))
 }
 
 // Plays four songs, which then are undone, and returns them as digits.
-fn order_of<P: PtrKey, A: ChainArenaTrait<P, Entry<u32>> + Drop>(list: &mut PlayList<P, A>) -> u64 {
+fn order_of<P: PtrKey, A: ChainArenaTrait<P, Entry<Song>> + Drop>(
+    list: &mut PlayList<P, A>,
+) -> u64 {
     let mut digits: u64 = 0;
     for _ in 0..4 {
         if let Some(song) = list.play_next() {
@@ -74,7 +81,7 @@ fn order_of<P: PtrKey, A: ChainArenaTrait<P, Entry<u32>> + Drop>(list: &mut Play
 }
 
 // Returns whether groups of four songs are moved to the front.
-fn groups_are_moved<P: PtrKey, A: ChainArenaTrait<P, Entry<u32>> + Drop>(
+fn groups_are_moved<P: PtrKey, A: ChainArenaTrait<P, Entry<Song>> + Drop>(
     alloc: Global,
     list: &mut PlayList<P, A>,
 ) -> Result<bool, ChainInsertionError> {
@@ -90,10 +97,10 @@ fn groups_are_moved<P: PtrKey, A: ChainArenaTrait<P, Entry<u32>> + Drop>(
 }
 
 // Returns whether a play list plays songs in order, and none if it is empty.
-fn plays_in_order<P: PtrKey, A: ChainArenaTrait<P, Entry<u32>> + Drop>(
+fn plays_in_order<P: PtrKey, A: ChainArenaTrait<P, Entry<Song>> + Drop>(
     alloc: Global,
 ) -> Result<bool, ChainInsertionError> {
-    let mut songs = Documents::<P, u32, A>::new(alloc);
+    let mut songs = Documents::<P, Song, A>::new(alloc);
     let queue = songs.new_list()?;
     let played = songs.new_list()?;
     let mut list = PlayList {
@@ -108,7 +115,7 @@ fn plays_in_order<P: PtrKey, A: ChainArenaTrait<P, Entry<u32>> + Drop>(
 
 // Only this body names the arena, since naming it is the cost.
 fn over_stack<S: SlotStack<Item = Slot>>(rt: &impl Abort, alloc: Global) {
-    let plays = plays_in_order::<ToolPtr, ChainArena<ToolPtr, Entry<u32>, S>>(alloc);
+    let plays = plays_in_order::<ToolPtr, ChainArena<ToolPtr, Entry<Song>, S>>(alloc);
     assert!(rt; plays == Ok(true), "{plays:?}");
 }
 
