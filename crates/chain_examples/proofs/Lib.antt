@@ -1,2 +1,3 @@
+mod BuiltListLemmas
 mod OwnerLemmas
 mod PlaceLemmas

@@ -1,6 +1,7 @@
 -- Links that a loop along a walk has passed.
-use Rattle.std.proofs.Common.{◌≡◌, ◌≢◌, ℕ, ◌+◌, inl, inr, ⊎_elim, List, [], ◌∷◌, ◌++◌, length, append_assoc, Option, None, Some, refl, sym, ap, ◌∙◌, subst, arith}
-use Rattle.std.proofs.lemmas.List.{length-append}
+use Rattle.std.proofs.Common.{◌≡◌, ◌≢◌, ℕ, ◌+◌, ⊎_elim, List, [], ◌∷◌, ◌++◌, map, length, append_assoc, Option, Some, refl, sym, ap, ◌∙◌, subst}
+use Rattle.std.specs.Option.{option_map}
+use Rattle.std.proofs.lemmas.List.{length-append, map-append}
 use Rattle.chain_laws.specs.Chains.{LinkMap, IsMember}
 use Rattle.chain_laws.specs.Walks.{IsWalk}
 use Rattle.chain_laws.proofs.InterlinkLemmas.Inverses.{one_some}
@@ -38,3 +39,24 @@ module _ {Gen T : Type 0} (entry : ℕ → Option (Gen × T)) (q : ℕ × Gen) w
   pub place_found : (links : LinkMap) (p : ℕ × Gen) (ahead next whole : List ℕ) (n : ℕ) → IsPassed ahead whole n → ahead ≡ q.0 ∷ next → IsValid entry q → IsWalk links p.0 whole → FindsPlace entry links p q (Some n)
   place_found links p ahead next whole n part is valid walk =
       (valid, part.links, next, subst (IsWalk links p.0) (sym (ap (λ l. part.links ++ l) (sym is) ∙ part.rest)) walk, part.number)
+
+-- The values of passed links.
+module _ {Gen T : Type 0} (entry : ℕ → Option (Gen × T)) where
+  abbrev pub value_at : ℕ → Option T
+  value_at i = option_map (λ (e : Gen × T). e.1) (entry i)
+
+  pub record AreRead (ahead whole : List ℕ) (values : List T) : Type 0 where
+    pub links : List ℕ
+    pub rest : links ++ ahead ≡ whole
+    pub are_values : map value_at links ≡ map (λ t. Some t) values
+
+  pub none_read : (whole : List ℕ) → AreRead whole whole []
+  none_read whole = record { links = []; rest = refl; are_values = refl }
+
+  pub one_read : (ahead next whole : List ℕ) (values after : List T) (p : ℕ × Gen) (t : T) → AreRead ahead whole values → ahead ≡ p.0 ∷ next → entry p.0 ≡ Some (p.1, t) → after ≡ values ++ t ∷ [] → AreRead next whole after
+  one_read ahead next whole values after p t part is stored pushed = record {
+    links = part.links ++ p.0 ∷ [];
+    rest = append_assoc part.links (p.0 ∷ []) next ∙ (ap (λ l. part.links ++ l) (sym is) ∙ part.rest);
+    are_values = map-append value_at part.links (p.0 ∷ [])
+        ∙ (ap (λ l. l ++ value_at p.0 ∷ []) part.are_values ∙ (ap (λ (o : Option (Gen × T)). map (λ t. Some t) values ++ option_map (λ (e : Gen × T). e.1) o ∷ []) stored ∙ (sym (map-append (λ (t : T). Some t) values (t ∷ [])) ∙ ap (λ l. map (λ t. Some t) l) (sym pushed))));
+  }

@@ -1,2 +1,3 @@
+pub mod BuiltLists
 pub mod Owners
 pub mod Places

@@ -11,14 +11,16 @@ ghost use Rattle.arena_traits.specs.CallOutcomes.{ReportsOverflow};
 ghost use Rattle.chain_links.specs.CallEffects.{IsConnected, IsRemoved};
 ghost use Rattle.chain_links.specs.ChainArena.{CanConnect};
 ghost use Rattle.chain_links.specs.Insertions.{InsertsLink};
+ghost use Rattle.chain_examples.specs.BuiltLists.{PutsAllBehind};
 ghost use Rattle.chain_examples.specs.Owners.{SetsOwners};
-ghost use Rattle.chain_examples.specs.Places.{FindsPlace};
+ghost use Rattle.chain_examples.specs.Places.{FindsPlace, ReadsValues};
 
 use arena_ptr::{AnyPointer, ChainInsertionError, GenKey, InvalidationResult, InxKey, PtrKey};
 use arena_traits::Advancer;
 use chain_links::LinkInsertKind;
 use chain_traits::ChainArenaTrait;
 use chain_traits::walks::{advancer_passes_the_walk, for_each_in_chain};
+use std::alloc::{AllocError, Global};
 
 /// Connects `p` to `q`, so that `q` is the link after `p`, and returns whether it succeeded.
 ///
@@ -134,6 +136,58 @@ pub fn place_in_walk<P: PtrKey, T: Drop, A: ChainArenaTrait<P, T>>(
         n += 1;
     }
     None
+}
+
+/// Inserts values directly behind `p`, in order, and returns the pointer of the last one, or `p`.
+///
+/// # Errors
+///
+/// Those of `put_behind`; the values before are inserted then.
+pub fn put_all_behind<P: PtrKey, A: ChainArenaTrait<P, u32>>(
+    arena: &mut A,
+    p: P,
+    values: &[u32],
+) -> Result<P, ChainInsertionError>
+    ensures { PutsAllBehind A.state A.interlinks P.key arena.old (P.key p) values.now result
+        arena.new }
+{
+    let mut last = p;
+    for value in values {
+        arena.agrees();
+        match arena.insert_reallocating(LinkInsertKind::NextTo(last), *value) {
+            Ok(q) => last = q,
+            Err(why) => return Err(why),
+        }
+    }
+    Ok(last)
+}
+
+/// Returns the values of the walk from `p`, in order, or `None` if `p` is not valid.
+///
+/// # Errors
+///
+/// - `AllocError`: an allocation failed.
+pub fn values_from<P: PtrKey, A: ChainArenaTrait<P, u32>>(
+    arena: &A,
+    alloc: Global,
+    p: P,
+) -> Result<Option<Vec<u32>>, AllocError>
+    ensures { IfOk result (λ r. ReadsValues (A.entry arena.now) (A.interlinks arena.now) (P.key p)
+        (option_map (λ values. values.items) r)) }
+{
+    advancer_passes_the_walk(arena, p);
+    let mut along = match arena.advancer_chain(p) {
+        Some(along) => along,
+        None => return Ok(None),
+    };
+    let mut values = Vec::new(alloc);
+    while let Some(q) = along.advance(arena) {
+        match arena.get(q) {
+            Some(value) => values.push(*value)?,
+            None => unreachable!(),
+        }
+    }
+    Ok(Some(values))
 }
 
 /// Sets the owner of the chain of `p`; `None` if `p` is not valid.

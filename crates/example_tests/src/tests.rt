@@ -4,6 +4,7 @@
 //! once more, since its growth or allocation may have been refused. The state after it shows whether
 //! the refusal changed anything.
 
+mod loops;
 mod named_type;
 mod no_memory;
 mod own_calls;
@@ -75,10 +76,11 @@ fn wrong_by_forwarding<P: Named, A: ChainArenaTrait<P, u32> + Drop>(alloc: Globa
 }
 
 // Returns what is wrong over an arena.
-fn results<P: Named, A: OwnCalls<P>>(alloc: Global) -> [Wrong; 4] {
+fn results<P: Named, A: OwnCalls<P>>(alloc: Global) -> [Wrong; 5] {
     [
         tutorial::wrong::<P, A>(alloc),
         wrong_by_forwarding::<P, A>(alloc),
+        wrong_unless(loops::are_right::<P, A>(alloc)),
         wrong_unless(renumbering::is_right::<P, A>(alloc)),
         wrong_unless(renumbering::is_right_without_links::<P, A>(alloc)),
     ]
