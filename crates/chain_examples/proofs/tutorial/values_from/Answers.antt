@@ -39,6 +39,6 @@ returns g c =
     let end = (g.met.A.ChainArenaTrait.passes c.loop-q.along c.advance.new.self a _ c.in_default.ensures).end in
     let begins = ap (passes_ahead links) c.in-Some.ensures.walker in
     let whole = walk_whole links entry (g.A.ArenaTrait.view a).entries (g.met.A.ChainArenaTrait.links_are_entries a) (g.A.ArenaTrait.state a).finds i part.links (passes_ahead links (g.A.ChainArenaTrait.walker c.loop-q.along))
-        (subst (IsWalk links i) (sym (part.rest ∙ begins)) (c.advancer_passes_the_walk.ensures valid))
-        (first_ahead links (g.A.ChainArenaTrait.walker c.loop-q.along) (λ k. entry k ≡ None) end) in
+    (subst (IsWalk links i) (sym (part.rest ∙ begins)) (c.advancer_passes_the_walk.ensures valid))
+    (first_ahead links (g.A.ChainArenaTrait.walker c.loop-q.along) (λ k. entry k ≡ None) end) in
     (valid, part.links, whole, part.are_values)
