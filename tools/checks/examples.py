@@ -5,6 +5,7 @@ Read from the pages and sources:
 - The lines of the example session of docs/CLI.md are `crates/chain_tool/sample`. They have the same responses in the script on which
   `rt ci` runs the program, `crates/chain_tool/stdin` and `stdout`.
 - README's diagram is in the docs of `crates/chain_arena`.
+- Each example below has not been changed since it last passed: its sum is in `tested_examples.txt`, which a run writes.
 - The examples of docs/PROOF_GUIDE.md are in `crates/chain_examples`, which `rt ci` proves.
 
 Run by `rt try`, without proofs, in copies of this repository:
@@ -12,7 +13,9 @@ Run by `rt try`, without proofs, in copies of this repository:
 - README's example passes its test, and that of the docs of `crates/chain_arena` returns true. So do the examples in the doc comments of
   calls: each is the body of a test with the runtime `rt` and the allocator `alloc`.
 - So do GUIDE's examples under 'I want to', after the chains that they begin with; one with an `fn` stands beside them.
+- So do the examples in the READMEs of `linked_lists`, `documents` and `run_queues`.
 - README's commands succeed, other than the gate."""
+import hashlib
 import os
 import re
 import shutil
@@ -22,6 +25,12 @@ import textwrap
 
 from sources.items import ROOT, files_below, items_in_file
 from sources.pages import code_blocks, read, table_rows
+
+TESTED = "tools/checks/tested_examples.txt"
+
+# The crates whose READMEs have an example, and the line for it.
+LISTS = ("linked_lists", "documents", "run_queues")
+LISTS_LINE = "mine: arena_core arena_ptr arena_traits chain_arena chain_laws chain_links chain_lists chain_renumbering chain_traits " + " ".join(LISTS)
 
 # Before the tests made from doc comments.
 DOC_TESTS = """#![tactic(auto)]
@@ -82,6 +91,10 @@ def problems():
     for it in code_blocks(read("docs/PROOF_GUIDE.md"), "rust"):
         if it not in tutorial:
             yield f"docs/PROOF_GUIDE.md: this example is not in tutorial.rt: {it.splitlines()[0]} .."
+    tested = read(TESTED).split() if os.path.isfile(f"{ROOT}/{TESTED}") else []
+    for where, *suite in suites():
+        if sum_of(suite) not in tested:
+            yield f"{where}: an example was changed, and has not passed since: tools/check --run examples"
 
 
 # ---------------------------------------------------------------- with the toolchain
@@ -95,12 +108,22 @@ def guide_examples():
     return [GUIDE_CHAINS + it for it in codes if it not in items], items
 
 
+def test_of(name, code):
+    body = textwrap.indent(code, "    ")
+    return f"#[test]\nfn {name}(rt: HostRuntime) -> Result<(), ChainInsertionError> {{\n    let alloc: Global = rt.alloc();\n{body}    Ok(())\n}}\n"
+
+
 def doc_tests(examples, items=()):
-    tests = [
-        f"#[test]\nfn example_{k}(rt: HostRuntime) -> Result<(), ChainInsertionError> {{\n    let alloc: Global = rt.alloc();\n{textwrap.indent(code, '    ')}    Ok(())\n}}\n"
-        for k, code in enumerate(examples, 1)
-    ]
+    tests = [test_of(f"example_{k}", code) for k, code in enumerate(examples, 1)]
     return "\n".join([DOC_TESTS, *items, *tests])
+
+
+def readme_test(name):
+    """Returns the example in the README of a crate, as the root file of a crate with one test."""
+    lines = code_blocks(read(f"crates/{name}/README.md"), "rust")[0].splitlines()
+    uses = ["use arena_ptr::ChainInsertionError;", *(it for it in lines if it.startswith("use ")), "use std::alloc::Global;"]
+    code = "\n".join(it for it in lines if not it.startswith("use ")) + "\n"
+    return "#![tactic(auto)]\n\n" + "\n".join(uses) + "\n\n" + test_of("example", code)
 
 
 def with_test(code):
@@ -142,16 +165,31 @@ def commands_succeed(page):
     return program.stdout == responses and vendor.returncode == 0
 
 
-def run_problems():
+def suites():
+    """Yields the examples that are run: where they are, the line for crates.txt, the root file, and how many tests it has."""
     page, examples = read("README.md"), doc_comment_examples()
-    if not passes_tests(crate_line(page), code_blocks(page, "rust")[0], 1):
-        yield "README.md: the example does not pass its test"
-    if not passes_tests(crate_line(page), with_test(code_blocks(crate_docs(), "rust")[0]), 1):
-        yield "crates/chain_arena/src/lib.rt: the example does not return true"
-    if not examples or not passes_tests(f"{crate_line(page)} chain_traits", doc_tests(examples), len(examples)):
-        yield "an example of a doc comment does not pass its test"
     bodies, items = guide_examples()
-    if not passes_tests(f"{crate_line(page)} chain_traits", doc_tests(bodies, items), len(bodies)):
-        yield "docs/GUIDE.md: an example under 'I want to' does not pass its test"
-    if not commands_succeed(page):
+    line = crate_line(page)
+    yield "README.md", line, code_blocks(page, "rust")[0], 1
+    yield "crates/chain_arena/src/lib.rt", line, with_test(code_blocks(crate_docs(), "rust")[0]), 1
+    yield "doc comments", f"{line} chain_traits", doc_tests(examples), len(examples)
+    yield "docs/GUIDE.md", f"{line} chain_traits", doc_tests(bodies, items), len(bodies)
+    for name in LISTS:
+        yield f"crates/{name}/README.md", LISTS_LINE, readme_test(name), 1
+
+
+def sum_of(suite):
+    return hashlib.sha256(repr(suite).encode()).hexdigest()[:32]
+
+
+def run_problems():
+    passed = []
+    for where, *suite in suites():
+        if passes_tests(*suite):
+            passed.append(sum_of(suite))
+        else:
+            yield f"{where}: an example does not pass its test"
+    with open(f"{ROOT}/{TESTED}", "w", encoding="utf-8") as file:
+        file.write("".join(f"{it}\n" for it in passed))
+    if not commands_succeed(read("README.md")):
         yield "README.md: a command does not succeed, or the program does not print the responses of the session"
