@@ -1,17 +1,9 @@
 //! An editor of outlines: documents of numbered paragraphs, with bookmarks and undo.
 #![tactic(auto)]
 
-mod command_error;
-mod editor;
-mod line;
-mod paragraphs;
-mod refusal;
-mod renumbering;
-mod session;
 mod status;
 #[cfg(test)]
 mod tests;
-mod undo;
 
 use status::{Status, edit_input};
 use std::io::{BufWriter, writer};

@@ -1,6 +1,6 @@
 //! Runs and their exit statuses.
 
-use crate::session::{RunError, run};
+use outline_commands::session::{RunError, run};
 use std::alloc::Global;
 use std::io;
 use std::io::{Read, Write};

@@ -2,12 +2,12 @@
 
 mod model;
 
-use crate::command_error::CommandError;
-use crate::line::{Line, Place, parse};
-use crate::refusal::Refusal;
-use crate::session::{Session, ToolSession};
 use crate::status::edit_input;
 use model::Model;
+use outline_commands::command_error::CommandError;
+use outline_commands::line::{Line, Place, parse};
+use outline_commands::refusal::Refusal;
+use outline_commands::session::{Session, ToolSession};
 use std::alloc::{AllocError, Global};
 use std::io;
 use std::io::{BufWriter, ErrorKind, Read, Write, sink};

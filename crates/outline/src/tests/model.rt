@@ -1,6 +1,6 @@
 //! A model of outlines in plain vectors.
 
-use crate::line::{Line, Place};
+use outline_commands::line::{Line, Place};
 use std::alloc::{AllocError, Global};
 use std::mem;
 

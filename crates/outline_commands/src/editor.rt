@@ -1,7 +1,7 @@
 //! An editor of documents in one arena of links.
 
 ghost use Rattle.std.specs.Prelude.{◌≡◌, ◌+◌, IfNone, IfOk, OnErr, OnOk, vec_len};
-ghost use Rattle.outline.specs.Changes.{IsUnchangedIfRefused};
+ghost use Rattle.outline_commands.specs.Changes.{IsUnchangedIfRefused};
 
 use crate::command_error::CommandError;
 use crate::line::Place;

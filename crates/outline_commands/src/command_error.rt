@@ -1,7 +1,7 @@
 //! Errors of commands.
 
 ghost use Rattle.std.specs.Prelude.{◌≡◌};
-ghost use Rattle.outline.specs.declared.command_error.CommandError.TheVariants.{Refused, Memory};
+ghost use Rattle.outline_commands.specs.declared.command_error.CommandError.TheVariants.{Refused, Memory};
 
 use crate::refusal::Refusal;
 use std::alloc::{AllocError, AllocFailed};
