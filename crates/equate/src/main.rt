@@ -1,9 +1,6 @@
 //! A program that keeps classes of equal words.
 #![tactic(auto)]
 
-mod equations;
-mod line;
-mod session;
 mod status;
 #[cfg(test)]
 mod tests;

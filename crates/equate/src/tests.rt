@@ -1,7 +1,7 @@
 //! Tests of lines, and of runs over readers and writers in memory.
 
-use crate::line::{Line, parse};
 use crate::status::respond_to_input;
+use equate_commands::line::{Line, parse};
 use std::alloc::Global;
 use std::io;
 use std::io::{BufWriter, ErrorKind, Read, Write, sink};

@@ -1,14 +1,9 @@
 //! A program that schedules tasks by priority.
 #![tactic(auto)]
 
-mod line;
-mod refusal;
-mod scheduler;
-mod session;
 mod status;
 #[cfg(test)]
 mod tests;
-mod turns;
 
 use status::{Status, schedule_input};
 use std::io::{BufWriter, writer};

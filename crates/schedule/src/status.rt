@@ -1,6 +1,6 @@
 //! Exit statuses.
 
-use crate::session::{RunError, run};
+use schedule_commands::session::{RunError, run};
 use std::alloc::Global;
 use std::io;
 use std::io::{Read, Write};

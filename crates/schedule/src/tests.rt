@@ -1,8 +1,8 @@
 //! Tests of lines, and of runs over readers and writers in memory.
 
-use crate::line::{Line, parse};
-use crate::refusal::Refusal;
 use crate::status::schedule_input;
+use schedule_commands::line::{Line, parse};
+use schedule_commands::refusal::Refusal;
 use std::alloc::Global;
 use std::io;
 use std::io::{BufWriter, ErrorKind, Read, Write, sink};
