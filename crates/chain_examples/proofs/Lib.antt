@@ -1,3 +1,2 @@
-mod BuiltListLemmas
 mod OwnerLemmas
 mod PlaceLemmas

@@ -36,9 +36,9 @@ module _ {Gen T : Type 0} (entry : ℕ → Option (Gen × T)) (q : ℕ × Gen) w
         (IsMember-parts part.links (p.0 ∷ []) q.0 has);
   }
 
-  pub place_found : (links : LinkMap) (p : ℕ × Gen) (ahead next whole : List ℕ) (n : ℕ) → IsPassed ahead whole n → ahead ≡ q.0 ∷ next → IsValid entry q → IsWalk links p.0 whole → FindsPlace entry links p q (Some n)
-  place_found links p ahead next whole n part is valid walk =
-      (valid, part.links, next, subst (IsWalk links p.0) (sym (ap (λ l. part.links ++ l) (sym is) ∙ part.rest)) walk, part.number)
+  pub place_found : (links : LinkMap) (p : ℕ × Gen) (ahead next whole : List ℕ) (n : ℕ) → IsPassed ahead whole n → ahead ≡ q.0 ∷ next → IsValid entry p → IsValid entry q → IsWalk links p.0 whole → FindsPlace entry links p q (Some n)
+  place_found links p ahead next whole n part is start valid walk =
+      (start, valid, part.links, next, subst (IsWalk links p.0) (sym (ap (λ l. part.links ++ l) (sym is) ∙ part.rest)) walk, part.number)
 
 -- The values of passed links.
 module _ {Gen T : Type 0} (entry : ℕ → Option (Gen × T)) where

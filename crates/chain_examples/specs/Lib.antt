@@ -1,3 +1,2 @@
-pub mod BuiltLists
 pub mod Owners
 pub mod Places

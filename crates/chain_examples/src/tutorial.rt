@@ -11,7 +11,6 @@ ghost use Rattle.arena_traits.specs.CallOutcomes.{ReportsOverflow};
 ghost use Rattle.chain_links.specs.CallEffects.{IsConnected, IsRemoved};
 ghost use Rattle.chain_links.specs.ChainArena.{CanConnect};
 ghost use Rattle.chain_links.specs.Insertions.{InsertsLink};
-ghost use Rattle.chain_examples.specs.BuiltLists.{PutsAllBehind};
 ghost use Rattle.chain_examples.specs.Owners.{SetsOwners};
 ghost use Rattle.chain_examples.specs.Places.{FindsPlace, ReadsValues};
 
@@ -136,30 +135,6 @@ pub fn place_in_walk<P: PtrKey, T: Drop, A: ChainArenaTrait<P, T>>(
         n += 1;
     }
     None
-}
-
-/// Inserts values directly behind `p`, in order, and returns the pointer of the last one, or `p`.
-///
-/// # Errors
-///
-/// Those of `put_behind`; the values before are inserted then.
-pub fn put_all_behind<P: PtrKey, A: ChainArenaTrait<P, u32>>(
-    arena: &mut A,
-    p: P,
-    values: &[u32],
-) -> Result<P, ChainInsertionError>
-    ensures { PutsAllBehind A.state A.interlinks P.key arena.old (P.key p) values.now result
-        arena.new }
-{
-    let mut last = p;
-    for value in values {
-        arena.agrees();
-        match arena.insert_reallocating(LinkInsertKind::NextTo(last), *value) {
-            Ok(q) => last = q,
-            Err(why) => return Err(why),
-        }
-    }
-    Ok(last)
 }
 
 /// Returns the values of the walk from `p`, in order, or `None` if `p` is not valid.

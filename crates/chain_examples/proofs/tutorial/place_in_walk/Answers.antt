@@ -38,7 +38,7 @@ returns-then-is_same g c =
     let same = ap g.P.PtrKey.key ((g.met.P.PtrKey.same_is_equal c.in-Some-advance.r c.args.q).0 (sym c.if-is_same.ensures)) in
     let begins = ap (passes_ahead links) c.in-Some.ensures.walker in
     place_found entry (g.P.PtrKey.key c.args.q) links (g.P.PtrKey.key c.args.p) (passes_ahead links old) (passes_ahead links new) (passes_ahead links (g.A.ChainArenaTrait.walker c.in-Some.along)) c.loop-r.n c.loop-r.invariant.passed
-    (step_ahead links old new _ step.1 ∙ ap (λ k. k.0 ∷ passes_ahead links new) same) (subst (IsValid entry) same step.0)
+    (step_ahead links old new _ step.1 ∙ ap (λ k. k.0 ∷ passes_ahead links new) same) (c.in-Some.ensures.some.0 refl) (subst (IsValid entry) same step.0)
     (subst (IsWalk links (g.P.PtrKey.key c.args.p).0) (sym begins) (c.advancer_passes_the_walk.ensures (c.in-Some.ensures.some.0 refl)))
 
 pub returns : goal.returns
