@@ -64,7 +64,8 @@ pub fn for_each_in_chain<P: PtrKey, T: Drop, A: ChainArenaTrait<P, T>, F: FnMut(
     mut f: F,
 ) -> Option<()>
     requires { F.IsAlwaysCallable f }
-    ensures outcome { VisitsChain A.state A.interlinks F.FnMut P.key f arena.old p result arena.new }
+    ensures outcome { VisitsChain A.state A.interlinks F.FnMut P.key f arena.old p result
+        arena.new }
     ensures none { IfNone result (arena.new ≡ arena.old) }
 {
     advancer_passes_the_walk(&*arena, p);

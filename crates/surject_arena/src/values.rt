@@ -86,7 +86,8 @@ pub(crate) fn release<P: PtrKey, V: Drop, B: ArenaTrait<P, Counted<V>>>(
 ) -> Option<V>
     ensures many { (t : V) (n : ℕ) → B.entry values.old (P.key w).0
         ≡ Some ((P.key w).1, counted t n) → 1 < n → (result ≡ None)
-        × (B.view values.new ≡ view_with_value (B.view values.old) (P.key w).0 (counted t (n - 1))) }
+        × (B.view values.new
+        ≡ view_with_value (B.view values.old) (P.key w).0 (counted t (n - 1))) }
     ensures last { (t : V) (n : ℕ) → B.entry values.old (P.key w).0
         ≡ Some ((P.key w).1, counted t n) → n ≤ 1 → (result ≡ Some t)
         × (B.view values.new ≡ view_after_removal P.Gen.following (B.view values.old) (P.key w).0) }

@@ -10,7 +10,8 @@ use crate::points::{Point, is_left, orientation};
 // `around` is the bounding box of `other`.
 pub fn rings_meet(one: &[Point], other: &[Point], around: &BoundingBox) -> bool
     ensures meet { IsTrue result → RingsMeet one.now other.now }
-    ensures found { All (IsInBox around.now) other.now → RingsMeet one.now other.now → IsTrue result }
+    ensures found { All (IsInBox around.now) other.now → RingsMeet one.now other.now
+        → IsTrue result }
 {
     if one.is_empty() {
         return false;
