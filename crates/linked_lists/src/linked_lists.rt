@@ -254,10 +254,10 @@ impl<P: PtrKey, T: Drop, A: ChainArenaTrait<P, Entry<T>> + Drop> LinkedLists<P, 
     /// - `BeyondMaxCapacity`
     /// - `AllocError`
     pub fn push_front(&mut self, h: ListHandle<P>, value: T) -> Result<P, ChainInsertionError>
-        ensures outcome { PushesFront A.state A.interlinks P.key P.Inx.greatest self.old h.head value
-            result self.new }
-        ensures implementation { IfOk result (A.inserts self.old (kinds.NextTo h.head) (Entry.Item value)
-            self.new) }
+        ensures outcome { PushesFront A.state A.interlinks P.key P.Inx.greatest self.old h.head
+            value result self.new }
+        ensures implementation { IfOk result (A.inserts self.old (kinds.NextTo h.head)
+            (Entry.Item value) self.new) }
     {
         if !self.is_list(h) {
             return Err(ChainInsertionError::FailedLinkRequirement);
@@ -273,10 +273,10 @@ impl<P: PtrKey, T: Drop, A: ChainArenaTrait<P, Entry<T>> + Drop> LinkedLists<P, 
     /// - `BeyondMaxCapacity`
     /// - `AllocError`
     pub fn push_back(&mut self, h: ListHandle<P>, value: T) -> Result<P, ChainInsertionError>
-        ensures outcome { PushesBack A.state A.interlinks P.key P.Inx.greatest self.old h.head value
-            result self.new }
-        ensures implementation { IfOk result (A.inserts self.old (kinds.PrevTo h.head) (Entry.Item value)
-            self.new) }
+        ensures outcome { PushesBack A.state A.interlinks P.key P.Inx.greatest self.old h.head
+            value result self.new }
+        ensures implementation { IfOk result (A.inserts self.old (kinds.PrevTo h.head)
+            (Entry.Item value) self.new) }
     {
         if !self.is_list(h) {
             return Err(ChainInsertionError::FailedLinkRequirement);
@@ -376,7 +376,8 @@ impl<P: PtrKey, T: Drop, A: ChainArenaTrait<P, Entry<T>> + Drop> LinkedLists<P, 
 
     /// Moves an item to the start of any list.
     pub fn move_to_front(&mut self, p: P, h: ListHandle<P>) -> Option<()>
-        ensures { MovesToFront A.state A.interlinks self.old (P.key p) (P.key h.head) result self.new }
+        ensures { MovesToFront A.state A.interlinks self.old (P.key p) (P.key h.head) result
+            self.new }
     {
         if !self.is_item(p) {
             return None;
@@ -389,7 +390,8 @@ impl<P: PtrKey, T: Drop, A: ChainArenaTrait<P, Entry<T>> + Drop> LinkedLists<P, 
 
     /// Moves an item to the end of any list.
     pub fn move_to_back(&mut self, p: P, h: ListHandle<P>) -> Option<()>
-        ensures { MovesToBack A.state A.interlinks self.old (P.key p) (P.key h.head) result self.new }
+        ensures { MovesToBack A.state A.interlinks self.old (P.key p) (P.key h.head) result
+            self.new }
     {
         if !self.is_item(p) {
             return None;
@@ -480,7 +482,8 @@ impl<P: PtrKey, T: Drop, A: ChainArenaTrait<P, Entry<T>> + Drop> LinkedLists<P, 
 
     /// Moves all items of `k` behind those of `h` in O(1), or returns `None` if both are the same.
     pub fn join(&mut self, h: ListHandle<P>, k: ListHandle<P>) -> Option<()>
-        ensures { JoinsLists A.state A.interlinks self.old (P.key h.head) (P.key k.head) result self.new }
+        ensures { JoinsLists A.state A.interlinks self.old (P.key h.head) (P.key k.head) result
+            self.new }
     {
         if !self.is_list(h) {
             return None;
@@ -559,8 +562,8 @@ impl<P: PtrKey, T: Drop, A: ChainArenaTrait<P, Entry<T>> + Drop> LinkedLists<P, 
 
     fn remove_items(&mut self, h: ListHandle<P>) -> (usize, bool)
         requires { IsHandle (A.entry self.old) (P.key h.head) }
-        ensures { EmptiesList A.state A.interlinks P.Gen.wraps P.Gen.following self.old (P.key h.head)
-            result self.new }
+        ensures { EmptiesList A.state A.interlinks P.Gen.wraps P.Gen.following self.old
+            (P.key h.head) result self.new }
     {
         self.all_in_lists();
         let links = self.len();
@@ -574,8 +577,8 @@ impl<P: PtrKey, T: Drop, A: ChainArenaTrait<P, Entry<T>> + Drop> LinkedLists<P, 
 
     /// Removes a list, drops its items and returns their number.
     pub fn remove_list(&mut self, h: ListHandle<P>) -> InvalidationResult<usize>
-        ensures { RemovesList A.state A.interlinks P.Gen.wraps P.Gen.following self.old (P.key h.head)
-            result self.new }
+        ensures { RemovesList A.state A.interlinks P.Gen.wraps P.Gen.following self.old
+            (P.key h.head) result self.new }
     {
         if !self.is_list(h) {
             return InvalidationResult::InvalidPtr;

@@ -140,7 +140,8 @@ impl<P: PtrKey, T: Drop, A: ChainArenaTrait<P, Entry<T>> + Drop> RunQueues<P, T,
     ///
     /// - `AllocError`
     pub fn tasks(&self, alloc: Global, queue: Queue<P>) -> Result<Option<Vec<P>>, AllocError>
-        ensures some { IfOk result (λ r. IsSome r ↔ IsHandle (A.entry self.now) (P.key queue.head)) }
+        ensures some { IfOk result (λ r. IsSome r ↔ IsHandle (A.entry self.now)
+            (P.key queue.head)) }
         ensures tasks { IfOk result (λ r. IfSome r (λ pointers. ListsItems A.state A.interlinks
             P.key self.now queue.head pointers.items)) }
     {
@@ -219,7 +220,8 @@ impl<P: PtrKey, T: Drop, A: ChainArenaTrait<P, Entry<T>> + Drop> RunQueues<P, T,
     /// Moves the first task of `list` to the end of `queue` and returns it, or `None` if there is
     /// none.
     pub fn wake_one(&mut self, list: Queue<P>, queue: Queue<P>) -> Option<P>
-        ensures { WakesOne A.state A.interlinks P.key self.old list.head queue.head result self.new }
+        ensures { WakesOne A.state A.interlinks P.key self.old list.head queue.head result
+            self.new }
     {
         self.lists.all_in_lists();
         match self.lists.first(list) {
@@ -234,8 +236,8 @@ impl<P: PtrKey, T: Drop, A: ChainArenaTrait<P, Entry<T>> + Drop> RunQueues<P, T,
     /// Moves all tasks of `list` to the end of `queue`, in order, or returns `None` if both are the
     /// same.
     pub fn wake_all(&mut self, list: Queue<P>, queue: Queue<P>) -> Option<()>
-        ensures { JoinsLists A.state A.interlinks self.old (P.key queue.head) (P.key list.head) result
-            self.new }
+        ensures { JoinsLists A.state A.interlinks self.old (P.key queue.head) (P.key list.head)
+            result self.new }
     {
         self.lists.join(queue, list)
     }
