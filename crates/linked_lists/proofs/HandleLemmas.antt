@@ -11,8 +11,8 @@ use Rattle.arena_traits.specs.Entries.{ArenaView, ArenaState, last_key}
 use Rattle.chain_lists.specs.Lists.{indexes}
 use Rattle.chain_lists.proofs.ItemListLemmas.{same_pointer}
 use Rattle.linked_lists.specs.declared.entry.Entry.{Entry}
-use Rattle.linked_lists.specs.LinkedLists.{ring_of, IsHandle, IsItem, IsList, HasPlace, ReadsHandle}
-use Rattle.linked_lists.specs.RingCalls.{FindsHead, EndsList, EndsListOf}
+use Rattle.linked_lists.specs.LinkedLists.{ring_of, IsHandle, IsItem, IsList, HasPlace, AllInLists, ReadsHandle}
+use Rattle.linked_lists.specs.RingCalls.{FindsHead, ReadsLastLink, ReadsEndOfListOf, EndsList, EndsListOf}
 use Rattle.linked_lists.proofs.ListLemmas.{head_valid, item_valid, item_of, only_head}
 use Rattle.linked_lists.proofs.InsertionLemmas.{has_item}
 
@@ -56,13 +56,20 @@ module _ {A Gen T : Type 0} {view : A → ArenaView Gen (Entry T)} {entry : A �
   pub no_handle : (IsItem (entry a) (key p) → ⊥) → ReadsHandle state interlinks key handle_key a p None
   no_handle not_item = record { none = λ none. refl; handle = λ h t before after is. absurd (not_item (record { value = t; stored = item_of state interlinks a h (key p) t before after is })) }
 
-  pub handle_found : (t : T) → HasPlace state interlinks a (key p) t → (h : H) → ReadsHandle state interlinks key handle_key a p (Some h) → IsHandle (entry a) (handle_key h)
+  handle_found : (t : T) → HasPlace state interlinks a (key p) t → (h : H) → ReadsHandle state interlinks key handle_key a p (Some h) → IsHandle (entry a) (handle_key h)
   handle_found t at h reads = subst (IsHandle (entry a)) (sym (one_some (reads.handle at.handle t at.before at.after at.list))) at.list.are_stored.0
 
-  pub handle_there : (t : T) → HasPlace state interlinks a (key p) t → ReadsHandle state interlinks key handle_key a p None → ⊥
+  handle_there : (t : T) → HasPlace state interlinks a (key p) t → ReadsHandle state interlinks key handle_key a p None → ⊥
   handle_there t at reads = absurd (let none = reads.handle at.handle t at.before at.after at.list in cc)
 
-  pub ends_list_of : (h : H) (l : P) → ReadsHandle state interlinks key handle_key a p (Some h) → EndsList state interlinks a (handle_key h) (key l) → EndsListOf state interlinks a (key p) (key l)
+  ends_list_of : (h : H) (l : P) → ReadsHandle state interlinks key handle_key a p (Some h) → EndsList state interlinks a (handle_key h) (key l) → EndsListOf state interlinks a (key p) (key l)
   ends_list_of h l reads last k t before after is =
       let same = one_some (reads.handle k t before after is) in
       subst (λ (q : ℕ × Gen). Some (key l) ≡ last_key (ring_of q (before ++ (key p, t) ∷ after))) same (last (before ++ (key p, t) ∷ after) (subst (λ (q : ℕ × Gen). IsList state interlinks a q (before ++ (key p, t) ∷ after)) (sym same) is))
+
+  pub no_end : AllInLists state interlinks a → IsItem (entry a) (key p) → FindsHead (entry a) (interlinks a) handle_key (key p) None → ReadsEndOfListOf state interlinks key a (key p) None
+  no_end all item finds = λ also. handle_there item.value (all.items (key p) item.value item.stored) (reads_handle None item finds)
+
+  pub reads_end : AllInLists state interlinks a → IsItem (entry a) (key p) → (h : H) → FindsHead (entry a) (interlinks a) handle_key (key p) (Some h) → (r : Option P) → ReadsLastLink state interlinks key a (handle_key h) r → ReadsEndOfListOf state interlinks key a (key p) r
+  reads_end all item h finds None last = λ also. last (handle_found item.value (all.items (key p) item.value item.stored) h (reads_handle (Some h) item finds))
+  reads_end all item h finds (Some l) (head, valid, last) = (item, valid, ends_list_of h l (reads_handle (Some h) item finds) last)

@@ -1,6 +1,6 @@
 -- Each list has one handle, and each item is in one list.
 use Rattle.std.proofs.Common.{◌≡◌, ℕ, inl, inr, ⊎_elim, List, [], ◌∷◌, ◌++◌, map, Option, None, Some, refl, sym, ap, ◌∙◌, subst}
-use Rattle.std.specs.Prelude.{◌⊎◌, is_some, true}
+use Rattle.std.specs.Prelude.{◌⊎◌, Bool, is_some, true, false}
 use Rattle.std.proofs.lemmas.List.{map-append}
 use Rattle.chain_laws.specs.Chains.{LinkMap, cyclic, IsMember}
 use Rattle.chain_laws.proofs.ChainLemmas.Uniqueness.{one_cyclic}
@@ -176,3 +176,7 @@ module _ {A Gen T : Type 0} {view : A → ArenaView Gen (Entry T)} {entry : A �
         })
         (IsMember-or_not (indexes (ring_of k vs)) i))
         (IsMember-or_not (indexes (ring_of h us)) i)
+
+-- A test is not both true and false.
+pub not_both : {b : Bool} → b ≡ true → b ≡ false → ⊥
+not_both is not = absurd (let both = sym is ∙ not in cc)

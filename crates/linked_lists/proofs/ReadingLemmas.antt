@@ -10,7 +10,7 @@ use Rattle.chain_lists.proofs.ItemListLemmas.{are_stored-left, are_stored-right,
 use Rattle.linked_lists.specs.declared.entry.Entry.{Entry}
 use Rattle.linked_lists.specs.declared.entry.Entry.TheVariants as entries
 use Rattle.linked_lists.specs.LinkedLists.{as_item, ring_of, IsHandle, IsItem, IsList, EachInList, ReadsFirst, ReadsLast, ReadsNext, ReadsPrev}
-use Rattle.linked_lists.specs.RingCalls.{KeepsItemOnly, ReadsNextLink, ReadsPrevLink, EndsList}
+use Rattle.linked_lists.specs.RingCalls.{KeepsItemOnly, ReadsNextLink, ReadsPrevLink, ReadsLastLink, EndsList}
 use Rattle.linked_lists.proofs.RingLemmas.{ring_rotated}
 use Rattle.linked_lists.proofs.ListLemmas.{ring_parts, head_or_item, item_of, list_of}
 
@@ -85,7 +85,7 @@ module _ {A Gen T : Type 0} {view : A → ArenaView Gen (Entry T)} {entry : A �
   no_prev = record { none = λ no. refl; prev = λ h t before after is. absurd (absent h t before after is) }
 
 module _ {A Gen T : Type 0} {view : A → ArenaView Gen (Entry T)} {entry : A → ℕ → Option (Gen × Entry T)} (state : (a : A) → ArenaState (view a) (entry a)) (interlinks : A → LinkMap) where
-  pub ends_valid : (a : A) (h l : ℕ × Gen) → EachInList state interlinks a → IsHandle (entry a) h → EndsList state interlinks a h l → IsValid (entry a) l
+  ends_valid : (a : A) (h l : ℕ × Gen) → EachInList state interlinks a → IsHandle (entry a) h → EndsList state interlinks a h l → IsValid (entry a) l
   ends_valid a h l each head last =
       let list = list_of state interlinks a each h head in
       let apart = last_apart (h, entries.Head) (map as_item list.0) in
@@ -94,11 +94,15 @@ module _ {A Gen T : Type 0} {view : A → ArenaView Gen (Entry T)} {entry : A �
       subst (IsValid (entry a)) (sym same) (record { value = apart.1.1; stored = stored.0 })
 
   module _ {P : Type 0} (key : P → ℕ × Gen) (a : A) (h : P) where
-    pub ends_list : (l : P) → ReadsPrevLink state interlinks key a h (Some l) → EndsList state interlinks a (key h) (key l)
+    ends_list : (l : P) → ReadsPrevLink state interlinks key a h (Some l) → EndsList state interlinks a (key h) (key l)
     ends_list l reads items is = reads entries.Head (map as_item items) is
 
-    pub has_end : EachInList state interlinks a → IsHandle (entry a) (key h) → ReadsPrevLink state interlinks key a h None → ⊥
+    has_end : EachInList state interlinks a → IsHandle (entry a) (key h) → ReadsPrevLink state interlinks key a h None → ⊥
     has_end each head reads =
         let list = list_of state interlinks a each (key h) head in
         let apart = last_apart (key h, entries.Head) (map as_item list.0) in
         absurd (let none = reads entries.Head (map as_item list.0) list.1 ∙ (ap last_key apart.2 ∙ last_is apart.0 apart.1) in cc)
+
+    pub reads_last_link : EachInList state interlinks a → IsHandle (entry a) (key h) → (r : Option P) → ReadsPrevLink state interlinks key a h r → ReadsLastLink state interlinks key a (key h) r
+    reads_last_link each head None reads = λ is. has_end each head reads
+    reads_last_link each head (Some l) reads = (head, ends_valid a (key h) (key l) each head (ends_list l reads), ends_list l reads)

@@ -46,6 +46,15 @@ module _ {A Gen T : Type 0} {view : A → ArenaView Gen (Entry T)} {entry : A �
   abbrev pub EndsListOf : A → (p l : ℕ × Gen) → Type 0
   EndsListOf arena p l = (h : ℕ × Gen) (t : T) (before after : List (Item Gen T)) → IsList state interlinks arena h (before ++ (p, t) ∷ after) → Some l ≡ last_key (ring_of h (before ++ (p, t) ∷ after))
 
+  -- The last link of `h`, if it is a handle; or of the list of `p`, if it is an item.
+  abbrev pub ReadsLastLink : {P : Type 0} → (P → ℕ × Gen) → A → ℕ × Gen → Option P → Type 0
+  ReadsLastLink key arena h None = IsHandle (entry arena) h → ⊥
+  ReadsLastLink key arena h (Some l) = IsHandle (entry arena) h × IsValid (entry arena) (key l) × EndsList arena h (key l)
+
+  abbrev pub ReadsEndOfListOf : {P : Type 0} → (P → ℕ × Gen) → A → ℕ × Gen → Option P → Type 0
+  ReadsEndOfListOf key arena p None = IsItem (entry arena) p → ⊥
+  ReadsEndOfListOf key arena p (Some l) = IsItem (entry arena) p × IsValid (entry arena) (key l) × EndsListOf arena p (key l)
+
   -- The items of `h` are removed: how many, and whether the counter wrapped.
   pub record EmptiesList (wraps : Gen → Bool) (following : Gen → Gen) (old : A) (h : ℕ × Gen) (n : ℕ × Bool) (new : A) : Type 0 where
     pub items : List (Item Gen T)
@@ -55,6 +64,11 @@ module _ {A Gen T : Type 0} {view : A → ArenaView Gen (Entry T)} {entry : A �
     pub others : KeepsOthers state interlinks old new (h ∷ [])
     pub number : n.0 ≡ length items
     pub overflow : IfSome (view old).counter (λ g. wraps_within wraps following (length items) g ≡ n.1)
+
+  -- The items of `h` are removed, if it is a handle.
+  abbrev pub RemovesItems : (wraps : Gen → Bool) (following : Gen → Gen) (old : A) (h : ℕ × Gen) → Option (ℕ × Bool) → A → Type 0
+  RemovesItems wraps following old h None new = (IsHandle (entry old) h → ⊥) × (new ≡ old)
+  RemovesItems wraps following old h (Some n) new = IsHandle (entry old) h × EmptiesList wraps following old h n new
 
   -- Whether `first` to `last` is a range without `q`, if `first` is an item.
   abbrev pub TestsRange : A → (first last q : ℕ × Gen) → Bool → Type 0

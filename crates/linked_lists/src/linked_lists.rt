@@ -2,13 +2,12 @@
 
 ghost use Rattle.std.specs.Prelude.{◌≡◌, ◌↔◌, ◌+◌, List, [], ◌∷◌, ◌++◌, IsTrue, IsSome, IfSome, IfNone, IfOk, OnOk, OnSome, None, Some};
 ghost use Rattle.std.specs.Borrow.{LendsSo, sem};
-ghost use Rattle.arena_traits.specs.Arena.{IsValid};
 ghost use Rattle.arena_traits.specs.Entries.{IsNew, count};
 ghost use Rattle.chain_laws.specs.declared.insert_kind.InsertKind.TheVariants as kinds;
 ghost use Rattle.chain_lists.specs.Rows.{chain_members};
 ghost use Rattle.chain_lists.specs.Sizes.{ReservesMore, CountsEntries, ReportsCapacity};
 ghost use Rattle.linked_lists.specs.LinkedLists.{AllInLists, EachInList, IsRangeWithout, MovesRangeToFront, MovesRangeToBack, MovesRangeAfter, IsHandle, HasItem, IsItem, ValueBecomes, ReadsValue, ReadsFirst, ReadsLast, ReadsNext, ReadsPrev, ReadsHandle, ListsItems, CreatesList, PushesFront, PushesBack, InsertsAfterItem, InsertsBeforeItem, RemovesListItem, ReplacesItem, MovesToFront, MovesToBack, MovesAfterItem, JoinsLists, SplitsList, RemovesList};
-ghost use Rattle.linked_lists.specs.RingCalls.{KeepsItemOnly, EndsList, EndsListOf, EmptiesList};
+ghost use Rattle.linked_lists.specs.RingCalls.{KeepsItemOnly, ReadsLastLink, ReadsEndOfListOf, RemovesItems};
 
 use crate::entry::{Entry, removed_value, value_of};
 use crate::handle::ListHandle;
@@ -169,16 +168,11 @@ impl<P: PtrKey, T: Drop, A: ChainArenaTrait<P, Entry<T>> + Drop> LinkedLists<P, 
         }
     }
 
-    // The last item, or the head of an empty list.
-    fn last_link(&self, h: ListHandle<P>) -> P
-        requires { IsHandle (A.entry self.now) (P.key h.head) }
-        ensures valid { IsValid (A.entry self.now) (P.key result) }
-        ensures last { EndsList A.state A.interlinks self.now (P.key h.head) (P.key result) }
+    // The last item of a list, or its head if it is empty.
+    fn last_link(&self, h: ListHandle<P>) -> Option<P>
+        ensures { ReadsLastLink A.state A.interlinks P.key self.now (P.key h.head) result }
     {
-        match prev_link(&self.arena, h.head) {
-            Some(last) => last,
-            None => unreachable!(),
-        }
+        if self.is_list(h) { prev_link(&self.arena, h.head) } else { None }
     }
 
     /// Returns the first item of a list, or `None` if it is empty.
@@ -396,10 +390,9 @@ impl<P: PtrKey, T: Drop, A: ChainArenaTrait<P, Entry<T>> + Drop> LinkedLists<P, 
         if !self.is_item(p) {
             return None;
         }
-        if !self.is_list(h) {
+        let Some(last) = self.last_link(h) else {
             return None;
-        }
-        let last = self.last_link(h);
+        };
         if are_same(last, p) {
             return Some(());
         }
@@ -457,10 +450,9 @@ impl<P: PtrKey, T: Drop, A: ChainArenaTrait<P, Entry<T>> + Drop> LinkedLists<P, 
         ensures { MovesRangeToBack A.state A.interlinks self.old (P.key first) (P.key last)
             (P.key h.head) result self.new }
     {
-        if !self.is_list(h) {
+        let Some(end) = self.last_link(h) else {
             return None;
-        }
-        let end = self.last_link(h);
+        };
         if are_same(end, last) {
             return Some(());
         }
@@ -485,34 +477,32 @@ impl<P: PtrKey, T: Drop, A: ChainArenaTrait<P, Entry<T>> + Drop> LinkedLists<P, 
         ensures { JoinsLists A.state A.interlinks self.old (P.key h.head) (P.key k.head) result
             self.new }
     {
-        if !self.is_list(h) {
+        let Some(end) = self.last_link(h) else {
             return None;
-        }
-        if !self.is_list(k) {
+        };
+        let Some(last) = self.last_link(k) else {
             return None;
-        }
+        };
         if are_same(h.head, k.head) {
             return None;
         }
         match self.first(k) {
-            Some(first) => {
-                let end = self.last_link(h);
-                let last = self.last_link(k);
-                self.arena.splice_after(end, first, last)
-            }
+            Some(first) => self.arena.splice_after(end, first, last),
             None => Some(()),
         }
     }
 
-    fn end_of_list_of(&self, p: P) -> P
-        requires { IsItem (A.entry self.now) (P.key p) }
-        ensures valid { IsValid (A.entry self.now) (P.key result) }
-        ensures last { EndsListOf A.state A.interlinks self.now (P.key p) (P.key result) }
+    // The last item of the list of `p`.
+    fn end_of_list_of(&self, p: P) -> Option<P>
+        ensures { ReadsEndOfListOf A.state A.interlinks P.key self.now (P.key p) result }
     {
+        if !self.is_item(p) {
+            return None;
+        }
         self.all_in_lists();
-        match self.list_of(p) {
+        match find_head(&self.arena, p) {
             Some(h) => self.last_link(h),
-            None => unreachable!(),
+            None => None,
         }
     }
 
@@ -527,11 +517,10 @@ impl<P: PtrKey, T: Drop, A: ChainArenaTrait<P, Entry<T>> + Drop> LinkedLists<P, 
         ensures { SplitsList A.state A.interlinks P.key (λ h. P.key h.head) P.Inx.greatest self.old
             p result self.new }
     {
-        if !self.is_item(p) {
-            return Ok(None);
-        }
         self.all_in_lists();
-        let last = self.end_of_list_of(p);
+        let Some(last) = self.end_of_list_of(p) else {
+            return Ok(None);
+        };
         let h = self.new_list()?;
         self.arena.splice_after(h.head, p, last);
         Ok(Some(h))
@@ -560,11 +549,13 @@ impl<P: PtrKey, T: Drop, A: ChainArenaTrait<P, Entry<T>> + Drop> LinkedLists<P, 
         }
     }
 
-    fn remove_items(&mut self, h: ListHandle<P>) -> (usize, bool)
-        requires { IsHandle (A.entry self.old) (P.key h.head) }
-        ensures { EmptiesList A.state A.interlinks P.Gen.wraps P.Gen.following self.old
+    fn remove_items(&mut self, h: ListHandle<P>) -> Option<(usize, bool)>
+        ensures { RemovesItems A.state A.interlinks P.Gen.wraps P.Gen.following self.old
             (P.key h.head) result self.new }
     {
+        if !self.is_list(h) {
+            return None;
+        }
         self.all_in_lists();
         let links = self.len();
         let mut wrapped = false;
@@ -572,7 +563,7 @@ impl<P: PtrKey, T: Drop, A: ChainArenaTrait<P, Entry<T>> + Drop> LinkedLists<P, 
             let (_, overflow) = self.remove(p).overflowing();
             wrapped |= overflow;
         }
-        (links - self.len(), wrapped)
+        Some((links - self.len(), wrapped))
     }
 
     /// Removes a list, drops its items and returns their number.
@@ -580,13 +571,13 @@ impl<P: PtrKey, T: Drop, A: ChainArenaTrait<P, Entry<T>> + Drop> LinkedLists<P, 
         ensures { RemovesList A.state A.interlinks P.Gen.wraps P.Gen.following self.old
             (P.key h.head) result self.new }
     {
-        if !self.is_list(h) {
-            return InvalidationResult::InvalidPtr;
+        match self.remove_items(h) {
+            Some((items, wrapped)) => {
+                let (_, overflow) = take(&mut self.arena, h.head).overflowing();
+                InvalidationResult::from_overflow(wrapped | overflow, items)
+            }
+            None => InvalidationResult::InvalidPtr,
         }
-        let (items, mut wrapped) = self.remove_items(h);
-        let (_, overflow) = take(&mut self.arena, h.head).overflowing();
-        wrapped |= overflow;
-        InvalidationResult::from_overflow(wrapped, items)
     }
 }
 

@@ -4,6 +4,7 @@ use Rattle.chain_laws.specs.Walks.{IsWalk, passes_ahead}
 use Rattle.chain_laws.proofs.WalkLemmas.Steps.{first_ahead}
 use Rattle.chain_laws.proofs.WalkLemmas.Walker.{no_other_walk}
 use Rattle.chain_traits.proofs.GenericArenaLemmas.{valid_some}
+use Rattle.linked_lists.proofs.ListLemmas.{not_both}
 use Rattle.linked_lists.proofs.HandleLemmas.{not_ahead, was_ahead, passed_in_walk, still_ahead}
 use Rattle.linked_lists.proofs.rings.find_head.Goals as goal
 
@@ -22,7 +23,7 @@ returns g c = λ valid walk k is head has.
     (c.loop-q.invariant.not_passed k head (subst (λ l. IsMember l k.0) (no_other_walk links p _ _ is first) has))
 
 pub returns-in-None : goal.returns-in-None
-returns-in-None g c = λ valid walk k is head has. absurd (let some = c.in-None.ensures.some.1 valid in cc)
+returns-in-None g c = λ valid walk k is head has. not_both (c.in-None.ensures.some.1 valid) refl
 
 pub returns-then-is_head : goal.returns-then-is_head
 returns-then-is_head g c =
@@ -48,5 +49,5 @@ loop-q-preserved g c =
     let walk = passes_ahead links (walker c.in-Some.along) in
     record {
       in_walk = was_ahead links entry walk (walker c.loop-q.along) (walker c.advance.new.self) q step.0 step.1 c.loop-q.invariant.in_walk;
-      not_passed = still_ahead links entry walk (walker c.loop-q.along) (walker c.advance.new.self) q step.0 step.1 (λ head. absurd (let yes = c.is_head.ensures.1 head in let no = c.if-is_head.false in cc)) c.loop-q.invariant.not_passed;
+      not_passed = still_ahead links entry walk (walker c.loop-q.along) (walker c.advance.new.self) q step.0 step.1 (λ head. not_both (c.is_head.ensures.1 head) c.if-is_head.false) c.loop-q.invariant.not_passed;
     }

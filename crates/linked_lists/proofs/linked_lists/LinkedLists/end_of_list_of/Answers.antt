@@ -1,18 +1,16 @@
-use Rattle.linked_lists.proofs.HandleLemmas.{handle_found, handle_there, ends_list_of}
+use Rattle.std.proofs.Common.{refl}
+use Rattle.linked_lists.specs.declared.handle.ListHandle.{ListHandle}
+use Rattle.linked_lists.proofs.HandleLemmas.{no_end, reads_end}
 use Rattle.linked_lists.proofs.linked_lists.LinkedLists.end_of_list_of.Goals as goal
 
-pub last_link-requires : goal.last_link-requires
-last_link-requires g c =
-    let item = c.requires in
-    handle_found g.A.ArenaTrait.state g.A.ChainArenaTrait.interlinks g.P.PtrKey.key (λ h. g.P.PtrKey.key h.head) c.args.self.now c.args.p item.value (c.all_in_lists.ensures.items (g.P.PtrKey.key c.args.p) item.value item.stored) c.in-Some.h c.in-Some.ensures
+pub returns-in-Some : goal.returns-in-Some
+returns-in-Some g c =
+    let item = c.if-not-is_item.ensures.0 refl in
+    let finds = rw c.self.view_is at c.in-Some.ensures in
+    reads_end g.A.ArenaTrait.state g.A.ChainArenaTrait.interlinks g.P.PtrKey.key (λ h. g.P.PtrKey.key h.head) c.args.self.now c.args.p c.all_in_lists.ensures item c.in-Some.h finds c.last_link.result c.last_link.ensures
 
-pub returns : goal.returns
-returns g c = record {
-  valid = c.last_link.ensures.valid;
-  last = ends_list_of g.A.ArenaTrait.state g.A.ChainArenaTrait.interlinks g.P.PtrKey.key (λ h. g.P.PtrKey.key h.head) c.args.self.now c.args.p c.in-Some.h c.last_link.result c.in-Some.ensures c.last_link.ensures.last;
-}
-
-pub unreachable-requires : goal.unreachable-requires
-unreachable-requires g c =
-    let item = c.requires in
-    handle_there g.A.ArenaTrait.state g.A.ChainArenaTrait.interlinks g.P.PtrKey.key (λ h. g.P.PtrKey.key h.head) c.args.self.now c.args.p item.value (c.all_in_lists.ensures.items (g.P.PtrKey.key c.args.p) item.value item.stored) c.in-None.ensures
+pub returns-in-None : goal.returns-in-None
+returns-in-None g c =
+    let item = c.if-not-is_item.ensures.0 refl in
+    let finds = rw c.self.view_is at c.in-None.ensures in
+    no_end g.A.ArenaTrait.state g.A.ChainArenaTrait.interlinks {H = ListHandle g.row.P.Denot g.row.P-Inx.Denot g.row.P-Gen.Denot g.row.P-Inx-Word.Denot} g.P.PtrKey.key (λ h. g.P.PtrKey.key h.head) c.args.self.now c.args.p c.all_in_lists.ensures item finds

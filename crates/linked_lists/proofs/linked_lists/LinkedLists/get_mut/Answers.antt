@@ -2,7 +2,7 @@ use Rattle.std.proofs.Common.{Some, refl, ◌∙◌, ap}
 use Rattle.linked_lists.specs.declared.entry.Entry.TheVariants as entries
 use Rattle.linked_lists.specs.LinkedLists.{HasItem}
 use Rattle.linked_lists.specs.RingCalls.{value_in}
-use Rattle.linked_lists.proofs.ListLemmas.{item_valid}
+use Rattle.linked_lists.proofs.ListLemmas.{item_valid, not_both}
 use Rattle.linked_lists.proofs.ChangeLemmas.{written, each_written, read_through, on_any, same_value}
 use Rattle.linked_lists.proofs.linked_lists.LinkedLists.get_mut.Goals as goal
 
@@ -46,4 +46,4 @@ returns-in-Some-get_mut g c =
 pub returns-in-None-get_mut : goal.returns-in-None-get_mut
 returns-in-None-get_mut g c =
     let item = c.in-Some.ensures.some in
-    absurd (let some = c.in-None-get_mut.ensures.some.1 (item_valid (g.A.ArenaTrait.entry c.self.inside.arena) (g.P.PtrKey.key c.args.p) item.value item.stored) in cc)
+    absurd (not_both (c.in-None-get_mut.ensures.some.1 (item_valid (g.A.ArenaTrait.entry c.self.inside.arena) (g.P.PtrKey.key c.args.p) item.value item.stored)) refl)

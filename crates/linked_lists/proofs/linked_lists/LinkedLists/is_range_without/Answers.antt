@@ -1,4 +1,5 @@
 use Rattle.std.proofs.Common.{refl}
+use Rattle.linked_lists.proofs.ListLemmas.{not_both}
 use Rattle.linked_lists.proofs.RangeMoveLemmas.{range_starts}
 use Rattle.linked_lists.proofs.linked_lists.LinkedLists.is_range_without.Goals as goal
 
@@ -10,8 +11,8 @@ returns g c =
 
 pub returns-then-not-is_item : goal.returns-then-not-is_item
 returns-then-not-is_item g c = (
-  λ yes. absurd (cc),
+  λ yes. absurd (not_both yes refl),
   λ range.
       let item = range_starts g.A.ArenaTrait.state g.A.ChainArenaTrait.interlinks c.args.self.now (g.P.PtrKey.key c.args.first) (g.P.PtrKey.key c.args.last) (g.P.PtrKey.key c.args.q) range in
-      absurd (let yes = c.is_item.ensures.1 item in let no = c.if-not-is_item.true in cc),
+      absurd (not_both (c.is_item.ensures.1 item) c.if-not-is_item.true),
 )

@@ -1,5 +1,6 @@
 use Rattle.std.proofs.Common.{refl}
 use Rattle.linked_lists.specs.LinkedLists.{MovesAfterItem}
+use Rattle.linked_lists.proofs.ListLemmas.{not_both}
 use Rattle.linked_lists.proofs.MoveLemmas.{moves_after_item, each_after_item}
 use Rattle.linked_lists.proofs.linked_lists.LinkedLists.move_after.Given.{Over}
 use Rattle.linked_lists.proofs.linked_lists.LinkedLists.move_after.Goals.{After-move_after}
@@ -9,7 +10,7 @@ moved : (g : Over) (c : After-move_after g) → MovesAfterItem g.A.ArenaTrait.st
 moved g c =
     let item = rw (← c.self.view_is) at (c.if-not-is_item.ensures.0 refl) in
     let target = rw (← c.self.view_is) at (c.if-not-is_item-2.ensures.0 refl) in
-    moves_after_item g.A.ArenaTrait.state g.A.ChainArenaTrait.interlinks c.self.inside.arena c.move_after.new.self (g.P.PtrKey.key c.args.p) g.P.PtrKey.key c.args.p c.args.q refl (λ same. absurd (let yes = c.are_same.ensures.1 same in let no = c.if-are_same.false in cc))
+    moves_after_item g.A.ArenaTrait.state g.A.ChainArenaTrait.interlinks c.self.inside.arena c.move_after.new.self (g.P.PtrKey.key c.args.p) g.P.PtrKey.key c.args.p c.args.q refl (λ same. not_both (c.are_same.ensures.1 same) c.if-are_same.false)
     c.move_after.result item target c.move_after.ensures.outcome c.move_after.ensures.none
 
 pub returns : goal.returns
