@@ -1,6 +1,6 @@
 -- The effect of insertions on lists.
 use Rattle.std.proofs.Common.{◌≡◌, ℕ, inl, inr, ⊎_elim, List, [], ◌∷◌, ◌++◌, map, Option, refl, sym, ap, ◌∙◌, subst}
-use Rattle.std.specs.Prelude.{is_some, OnErr, Result, Ok, Err}
+use Rattle.std.specs.Prelude.{◌↔◌, Bool, IsTrue, is_some, true, false, OnErr, Result, Ok, Err}
 use Rattle.std.proofs.lemmas.List.{append-nil}
 use Rattle.arena_core.specs.declared.errors.ChainInsertionError.{ChainInsertionError}
 use Rattle.arena_core.specs.declared.errors.ChainInsertionError.TheVariants as failed
@@ -15,8 +15,9 @@ use Rattle.chain_lists.proofs.ItemListLemmas.{among-right}
 use Rattle.linked_lists.specs.declared.entry.Entry.{Entry}
 use Rattle.linked_lists.specs.declared.entry.Entry.TheVariants as entries
 use Rattle.linked_lists.specs.LinkedLists.{as_item, ring_of, IsHandle, IsItem, IsList, EachInList, Becomes, GrowsAtStart, GrowsAtEnd, GrowsAfter, GrowsBefore, IsItemAdded, AddsItem}
+use Rattle.linked_lists.specs.RingCalls.{InsertsIf}
 use Rattle.linked_lists.proofs.RingLemmas.{ring_rotated}
-use Rattle.linked_lists.proofs.ListLemmas.{ring_parts, ring_has, ring_more, keeps_others, each_kept, list_of, place_of, item_valid, head_valid}
+use Rattle.linked_lists.proofs.ListLemmas.{ring_parts, ring_has, ring_more, keeps_others, each_kept, list_of, place_of, item_valid, head_valid, not_both}
 
 pub inserted_to : {P : Type 0} (weak strong : Type 0) (refuses : ReallocationError → Type 0) (done more : P → Type 0) (o : Result P ChainInsertionError) → strong → weak → IsInsertionResult weak refuses done o
     → ((p : P) → done p → more p) → IsInsertionResult strong refuses more o
@@ -99,21 +100,44 @@ module _ {A Gen T : Type 0} {view : A → ArenaView Gen (Entry T)} {entry : A �
         each_grown each added.item.entries at.handle at.before ((p, item.value) ∷ at.after) (e ∷ (p, item.value) ∷ at.after) at.list (added.list at.handle item.value at.before at.after at.list) (inl refl) (λ i has. inr has)
 
   module _ {P : Type 0} (key : P → ℕ × Gen) (greatest : ℕ) (old new : A) (p : ℕ × Gen) (t : T) (o : Result P ChainInsertionError) where
-    pub pushes_front : IsHandle (entry old) p → InsertsItemAfter state interlinks cyclic key greatest old p (entries.Item t) o new
+    -- A refusal, or the item is added as its link is.
+    added_if : (b : Bool) (outcome may : Type 0) (grows : A → A → Item Gen T → Type 0) → IsTrue b ↔ may → (may → outcome → AddsItem state interlinks key greatest may grows old t o new) → InsertsIf b outcome old o new
+        → AddsItem state interlinks key greatest may grows old t o new
+    added_if true outcome may grows test so is = so (test.0 refl) is
+    added_if false outcome may grows test so (refused, same) = subst (λ (r : Result P ChainInsertionError). AddsItem state interlinks key greatest may grows old t r new) (sym refused)
+        (record { outcome = λ holds. not_both (test.1 holds) refl; err = same })
+
+    after_head : IsHandle (entry old) p → InsertsItemAfter state interlinks cyclic key greatest old p (entries.Item t) o new
         → AddsItem state interlinks key greatest (IsHandle (entry old) p) (λ a b. GrowsAtStart state interlinks a b p) old t o new
-    pushes_front head is = record { outcome = inserted_to _ _ (RefusesOneMore (view old)) _ _ o head (head_valid (entry old) p head) is.outcome (λ q done. (added_at_start old new p (key q, t) done.0, done.1)); err = is.err }
+    after_head head is = record { outcome = inserted_to _ _ (RefusesOneMore (view old)) _ _ o head (head_valid (entry old) p head) is.outcome (λ q done. (added_at_start old new p (key q, t) done.0, done.1)); err = is.err }
 
-    pub pushes_back : IsHandle (entry old) p → InsertsItemBefore state interlinks cyclic key greatest old p (entries.Item t) o new
+    before_head : IsHandle (entry old) p → InsertsItemBefore state interlinks cyclic key greatest old p (entries.Item t) o new
         → AddsItem state interlinks key greatest (IsHandle (entry old) p) (λ a b. GrowsAtEnd state interlinks a b p) old t o new
-    pushes_back head is = record { outcome = inserted_to _ _ (RefusesOneMore (view old)) _ _ o head (head_valid (entry old) p head) is.outcome (λ q done. (added_at_end old new p (key q, t) done.0, done.1)); err = is.err }
+    before_head head is = record { outcome = inserted_to _ _ (RefusesOneMore (view old)) _ _ o head (head_valid (entry old) p head) is.outcome (λ q done. (added_at_end old new p (key q, t) done.0, done.1)); err = is.err }
 
-    pub inserts_after : IsItem (entry old) p → InsertsItemAfter state interlinks cyclic key greatest old p (entries.Item t) o new
+    after_item : IsItem (entry old) p → InsertsItemAfter state interlinks cyclic key greatest old p (entries.Item t) o new
         → AddsItem state interlinks key greatest (IsItem (entry old) p) (λ a b. GrowsAfter state interlinks a b p) old t o new
-    inserts_after item is = record { outcome = inserted_to _ _ (RefusesOneMore (view old)) _ _ o item (item_valid (entry old) p item.value item.stored) is.outcome (λ q done. (added_behind old new p (key q, t) done.0, done.1)); err = is.err }
+    after_item item is = record { outcome = inserted_to _ _ (RefusesOneMore (view old)) _ _ o item (item_valid (entry old) p item.value item.stored) is.outcome (λ q done. (added_behind old new p (key q, t) done.0, done.1)); err = is.err }
 
-    pub inserts_before : IsItem (entry old) p → InsertsItemBefore state interlinks cyclic key greatest old p (entries.Item t) o new
+    before_item : IsItem (entry old) p → InsertsItemBefore state interlinks cyclic key greatest old p (entries.Item t) o new
         → AddsItem state interlinks key greatest (IsItem (entry old) p) (λ a b. GrowsBefore state interlinks a b p) old t o new
-    inserts_before item is = record { outcome = inserted_to _ _ (RefusesOneMore (view old)) _ _ o item (item_valid (entry old) p item.value item.stored) is.outcome (λ q done. (added_ahead old new p (key q, t) done.0, done.1)); err = is.err }
+    before_item item is = record { outcome = inserted_to _ _ (RefusesOneMore (view old)) _ _ o item (item_valid (entry old) p item.value item.stored) is.outcome (λ q done. (added_ahead old new p (key q, t) done.0, done.1)); err = is.err }
+
+    pub pushes_front : (b : Bool) → IsTrue b ↔ IsHandle (entry old) p → InsertsIf b (InsertsItemAfter state interlinks cyclic key greatest old p (entries.Item t) o new) old o new
+        → AddsItem state interlinks key greatest (IsHandle (entry old) p) (λ a b. GrowsAtStart state interlinks a b p) old t o new
+    pushes_front b test is = added_if b _ (IsHandle (entry old) p) (λ a b. GrowsAtStart state interlinks a b p) test after_head is
+
+    pub pushes_back : (b : Bool) → IsTrue b ↔ IsHandle (entry old) p → InsertsIf b (InsertsItemBefore state interlinks cyclic key greatest old p (entries.Item t) o new) old o new
+        → AddsItem state interlinks key greatest (IsHandle (entry old) p) (λ a b. GrowsAtEnd state interlinks a b p) old t o new
+    pushes_back b test is = added_if b _ (IsHandle (entry old) p) (λ a b. GrowsAtEnd state interlinks a b p) test before_head is
+
+    pub inserts_after : (b : Bool) → IsTrue b ↔ IsItem (entry old) p → InsertsIf b (InsertsItemAfter state interlinks cyclic key greatest old p (entries.Item t) o new) old o new
+        → AddsItem state interlinks key greatest (IsItem (entry old) p) (λ a b. GrowsAfter state interlinks a b p) old t o new
+    inserts_after b test is = added_if b _ (IsItem (entry old) p) (λ a b. GrowsAfter state interlinks a b p) test after_item is
+
+    pub inserts_before : (b : Bool) → IsTrue b ↔ IsItem (entry old) p → InsertsIf b (InsertsItemBefore state interlinks cyclic key greatest old p (entries.Item t) o new) old o new
+        → AddsItem state interlinks key greatest (IsItem (entry old) p) (λ a b. GrowsBefore state interlinks a b p) old t o new
+    inserts_before b test is = added_if b _ (IsItem (entry old) p) (λ a b. GrowsBefore state interlinks a b p) test before_item is
 
     pub each_added : (may : Type 0) (grows : A → A → Item Gen T → Type 0) → EachInList state interlinks old → AddsItem state interlinks key greatest may grows old t o new
         → ((q : P) → may → IsItemAdded state interlinks old new (grows old new) (key q, t) → EachInList state interlinks new) → EachInList state interlinks new

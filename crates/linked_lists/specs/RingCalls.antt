@@ -1,5 +1,7 @@
-use Rattle.std.specs.Prelude.{◌≡◌, ◌↔◌, ℕ, Bool, IsTrue, IfSome, List, [], ◌∷◌, ◌++◌, length, Option, None, Some}
+use Rattle.std.specs.Prelude.{◌≡◌, ◌↔◌, ℕ, Bool, true, false, Result, Err, IsTrue, IfSome, List, [], ◌∷◌, ◌++◌, length, Option, None, Some}
 use Rattle.std.specs.Option.{option_map}
+use Rattle.arena_core.specs.declared.errors.ChainInsertionError.{ChainInsertionError}
+use Rattle.arena_core.specs.declared.errors.ChainInsertionError.TheVariants as failed
 use Rattle.chain_laws.specs.Chains.{LinkMap, IsMember}
 use Rattle.chain_laws.specs.Walks.{IsWalk}
 use Rattle.arena_traits.specs.Arena.{IsValid}
@@ -15,6 +17,11 @@ abbrev pub value_in : {T : Type 0} → Option (Entry T) → Option T
 value_in None = None
 value_in (Some entries.Head) = None
 value_in (Some (entries.Item t)) = Some t
+
+-- The outcome, if it `may` be; else a refusal.
+abbrev pub InsertsIf : {A P : Type 0} → Bool → Type 0 → A → Result P ChainInsertionError → A → Type 0
+InsertsIf true outcome old result new = outcome
+InsertsIf false outcome old result new = (result ≡ Err failed.FailedLinkRequirement) × (new ≡ old)
 
 -- The pointer, if it is that of an item.
 abbrev pub KeepsItemOnly : {Gen T P : Type 0} → (ℕ → Option (Gen × Entry T)) → (P → ℕ × Gen) → Option P → Option P → Type 0

@@ -172,7 +172,11 @@ impl<P: PtrKey, T: Drop, A: ChainArenaTrait<P, Entry<T>> + Drop> LinkedLists<P, 
     fn last_link(&self, h: ListHandle<P>) -> Option<P>
         ensures { ReadsLastLink A.state A.interlinks P.key self.now (P.key h.head) result }
     {
-        if self.is_list(h) { prev_link(&self.arena, h.head) } else { None }
+        if self.is_list(h) {
+            prev_link(&self.arena, h.head)
+        } else {
+            None
+        }
     }
 
     /// Returns the first item of a list, or `None` if it is empty.
@@ -253,10 +257,8 @@ impl<P: PtrKey, T: Drop, A: ChainArenaTrait<P, Entry<T>> + Drop> LinkedLists<P, 
         ensures implementation { IfOk result (A.inserts self.old (kinds.NextTo h.head)
             (Entry.Item value) self.new) }
     {
-        if !self.is_list(h) {
-            return Err(ChainInsertionError::FailedLinkRequirement);
-        }
-        put_after(&mut self.arena, h.head, Entry::Item(value))
+        let may = self.is_list(h);
+        put_after(&mut self.arena, may, h.head, Entry::Item(value))
     }
 
     /// Inserts an item at the end of a list and returns its pointer.
@@ -272,10 +274,8 @@ impl<P: PtrKey, T: Drop, A: ChainArenaTrait<P, Entry<T>> + Drop> LinkedLists<P, 
         ensures implementation { IfOk result (A.inserts self.old (kinds.PrevTo h.head)
             (Entry.Item value) self.new) }
     {
-        if !self.is_list(h) {
-            return Err(ChainInsertionError::FailedLinkRequirement);
-        }
-        put_before(&mut self.arena, h.head, Entry::Item(value))
+        let may = self.is_list(h);
+        put_before(&mut self.arena, may, h.head, Entry::Item(value))
     }
 
     /// Inserts an item directly after `p` and returns its pointer.
@@ -291,10 +291,8 @@ impl<P: PtrKey, T: Drop, A: ChainArenaTrait<P, Entry<T>> + Drop> LinkedLists<P, 
         ensures implementation { IfOk result (A.inserts self.old (kinds.NextTo p) (Entry.Item value)
             self.new) }
     {
-        if !self.is_item(p) {
-            return Err(ChainInsertionError::FailedLinkRequirement);
-        }
-        put_after(&mut self.arena, p, Entry::Item(value))
+        let may = self.is_item(p);
+        put_after(&mut self.arena, may, p, Entry::Item(value))
     }
 
     /// Inserts an item directly before `p` and returns its pointer.
@@ -310,10 +308,8 @@ impl<P: PtrKey, T: Drop, A: ChainArenaTrait<P, Entry<T>> + Drop> LinkedLists<P, 
         ensures implementation { IfOk result (A.inserts self.old (kinds.PrevTo p) (Entry.Item value)
             self.new) }
     {
-        if !self.is_item(p) {
-            return Err(ChainInsertionError::FailedLinkRequirement);
-        }
-        put_before(&mut self.arena, p, Entry::Item(value))
+        let may = self.is_item(p);
+        put_before(&mut self.arena, may, p, Entry::Item(value))
     }
 
     fn checked_item(&self, p: P) -> Option<()>

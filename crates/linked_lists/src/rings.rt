@@ -6,7 +6,7 @@ ghost use Rattle.chain_laws.specs.declared.insert_kind.InsertKind.TheVariants as
 ghost use Rattle.chain_laws.specs.Chains.{cyclic};
 ghost use Rattle.chain_lists.specs.Lists.{StartsList, InsertsItemAfter, InsertsItemBefore, RemovesItem};
 ghost use Rattle.linked_lists.specs.LinkedLists.{IsHandle};
-ghost use Rattle.linked_lists.specs.RingCalls.{ReadsNextLink, ReadsPrevLink, FindsHead, TestsRange};
+ghost use Rattle.linked_lists.specs.RingCalls.{InsertsIf, ReadsNextLink, ReadsPrevLink, FindsHead, TestsRange};
 
 use crate::entry::Entry;
 use crate::handle::ListHandle;
@@ -34,28 +34,37 @@ pub(crate) fn start_ring<P: PtrKey, V: Drop, A: ChainArenaTrait<P, V>>(
     }
 }
 
+// Inserts a link after `p`, if it `may`.
 pub(crate) fn put_after<P: PtrKey, V: Drop, A: ChainArenaTrait<P, V>>(
     arena: &mut A,
+    may: bool,
     p: P,
     value: V,
 ) -> Result<P, ChainInsertionError>
-    ensures outcome { InsertsItemAfter A.state A.interlinks cyclic P.key P.Inx.greatest
-        arena.old (P.key p) value result arena.new }
+    ensures outcome { InsertsIf may (InsertsItemAfter A.state A.interlinks cyclic P.key
+        P.Inx.greatest arena.old (P.key p) value result arena.new) arena.old result arena.new }
     ensures implementation { IfOk result (A.inserts arena.old (kinds.NextTo p) value arena.new) }
 {
+    if !may {
+        return Err(ChainInsertionError::FailedLinkRequirement);
+    }
     arena.agrees();
     arena.insert_reallocating(LinkInsertKind::NextTo(p), value)
 }
 
 pub(crate) fn put_before<P: PtrKey, V: Drop, A: ChainArenaTrait<P, V>>(
     arena: &mut A,
+    may: bool,
     p: P,
     value: V,
 ) -> Result<P, ChainInsertionError>
-    ensures outcome { InsertsItemBefore A.state A.interlinks cyclic P.key P.Inx.greatest
-        arena.old (P.key p) value result arena.new }
+    ensures outcome { InsertsIf may (InsertsItemBefore A.state A.interlinks cyclic P.key
+        P.Inx.greatest arena.old (P.key p) value result arena.new) arena.old result arena.new }
     ensures implementation { IfOk result (A.inserts arena.old (kinds.PrevTo p) value arena.new) }
 {
+    if !may {
+        return Err(ChainInsertionError::FailedLinkRequirement);
+    }
     arena.agrees();
     arena.insert_reallocating(LinkInsertKind::PrevTo(p), value)
 }

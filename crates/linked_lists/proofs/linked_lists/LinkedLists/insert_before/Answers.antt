@@ -1,12 +1,11 @@
-use Rattle.std.proofs.Common.{refl}
 use Rattle.linked_lists.specs.LinkedLists.{GrowsBefore}
 use Rattle.linked_lists.proofs.InsertionLemmas.{inserts_before, each_ahead, each_added}
 use Rattle.linked_lists.proofs.linked_lists.LinkedLists.insert_before.Goals as goal
 
 pub returns-clause-outcome : goal.returns-clause-outcome
 returns-clause-outcome g c =
-    let may = rw (← c.self.view_is) at (c.if-not-is_item.ensures.0 refl) in
-    rw (← c.self.view_is) (inserts_before g.A.ArenaTrait.state g.A.ChainArenaTrait.interlinks g.P.PtrKey.key _ c.self.inside.arena c.put_before.new.arena (g.P.PtrKey.key c.args.p) c.args.value c.put_before.result may c.put_before.ensures.outcome)
+    let test = rw (← c.self.view_is) at c.is_item-may.ensures in
+    rw (← c.self.view_is) (inserts_before g.A.ArenaTrait.state g.A.ChainArenaTrait.interlinks g.P.PtrKey.key _ c.self.inside.arena c.put_before.new.arena (g.P.PtrKey.key c.args.p) c.args.value c.put_before.result c.is_item-may.result test c.put_before.ensures.outcome)
 
 pub invariant_of-self : goal.invariant_of-self
 invariant_of-self g c =
@@ -15,7 +14,7 @@ invariant_of-self g c =
     let old = c.self.inside.arena in
     let new = c.put_before.new.arena in
     let p = g.P.PtrKey.key c.args.p in
-    let may = rw (← c.self.view_is) at (c.if-not-is_item.ensures.0 refl) in
+    let test = rw (← c.self.view_is) at c.is_item-may.ensures in
     each_added state interlinks g.P.PtrKey.key _ old new p c.args.value c.put_before.result _ (λ a b. GrowsBefore state interlinks a b p) c.self.invariant
-    (inserts_before state interlinks g.P.PtrKey.key _ old new p c.args.value c.put_before.result may c.put_before.ensures.outcome)
+    (inserts_before state interlinks g.P.PtrKey.key _ old new p c.args.value c.put_before.result c.is_item-may.result test c.put_before.ensures.outcome)
     (λ q holds. each_ahead state interlinks old new p (g.P.PtrKey.key q, c.args.value) c.self.invariant holds)

@@ -1,12 +1,11 @@
-use Rattle.std.proofs.Common.{refl}
 use Rattle.linked_lists.specs.LinkedLists.{GrowsAtEnd}
 use Rattle.linked_lists.proofs.InsertionLemmas.{pushes_back, each_at_end, each_added}
 use Rattle.linked_lists.proofs.linked_lists.LinkedLists.push_back.Goals as goal
 
 pub returns-clause-outcome : goal.returns-clause-outcome
 returns-clause-outcome g c =
-    let may = rw (← c.self.view_is) at (c.if-not-is_list.ensures.0 refl) in
-    rw (← c.self.view_is) (pushes_back g.A.ArenaTrait.state g.A.ChainArenaTrait.interlinks g.P.PtrKey.key _ c.self.inside.arena c.put_before.new.arena (g.P.PtrKey.key c.args.h.head) c.args.value c.put_before.result may c.put_before.ensures.outcome)
+    let test = rw (← c.self.view_is) at c.is_list-may.ensures in
+    rw (← c.self.view_is) (pushes_back g.A.ArenaTrait.state g.A.ChainArenaTrait.interlinks g.P.PtrKey.key _ c.self.inside.arena c.put_before.new.arena (g.P.PtrKey.key c.args.h.head) c.args.value c.put_before.result c.is_list-may.result test c.put_before.ensures.outcome)
 
 pub invariant_of-self : goal.invariant_of-self
 invariant_of-self g c =
@@ -15,7 +14,7 @@ invariant_of-self g c =
     let old = c.self.inside.arena in
     let new = c.put_before.new.arena in
     let p = g.P.PtrKey.key c.args.h.head in
-    let may = rw (← c.self.view_is) at (c.if-not-is_list.ensures.0 refl) in
+    let test = rw (← c.self.view_is) at c.is_list-may.ensures in
     each_added state interlinks g.P.PtrKey.key _ old new p c.args.value c.put_before.result _ (λ a b. GrowsAtEnd state interlinks a b p) c.self.invariant
-    (pushes_back state interlinks g.P.PtrKey.key _ old new p c.args.value c.put_before.result may c.put_before.ensures.outcome)
+    (pushes_back state interlinks g.P.PtrKey.key _ old new p c.args.value c.put_before.result c.is_list-may.result test c.put_before.ensures.outcome)
     (λ q holds. each_at_end state interlinks old new p (g.P.PtrKey.key q, c.args.value) c.self.invariant holds)
