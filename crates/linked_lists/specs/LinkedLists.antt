@@ -54,11 +54,9 @@ module _ {Gen T : Type 0} where
     pub stored : HasItem entry p value
 
   -- `get`: the value of `p`.
-  abbrev pub ReadsValue : (ℕ → Option (Gen × Entry T)) → ℕ × Gen → Option (Bor T) → Type 0
-  ReadsValue entry p result = record {
-    some : IsSome result ↔ IsItem entry p;
-    value : IfSome result (λ t. HasItem entry p t.now);
-  }
+  pub record ReadsValue (entry : ℕ → Option (Gen × Entry T)) (p : ℕ × Gen) (result : Option (Bor T)) : Type 0 where
+    pub some : IsSome result ↔ IsItem entry p
+    pub value : IfSome result (λ t. HasItem entry p t.now)
 
 module _ {A Gen T : Type 0} {view : A → ArenaView Gen (Entry T)} {entry : A → ℕ → Option (Gen × Entry T)} (state : (a : A) → ArenaState (view a) (entry a)) (interlinks : A → LinkMap) where
   module _ (arena : A) where
@@ -224,55 +222,41 @@ module _ {Gen T : Type 0} where
 module _ {A Gen T : Type 0} {view : A → ArenaView Gen (Entry T)} {entry : A → ℕ → Option (Gen × Entry T)} (state : (a : A) → ArenaState (view a) (entry a)) (interlinks : A → LinkMap) where
   module _ {P : Type 0} (key : P → ℕ × Gen) where
     -- `first`, `last`: the first or last item of `h`.
-    abbrev pub ReadsFirst : A → P → Option P → Type 0
-    ReadsFirst arena h result = record {
-      none : ¬ IsHandle (entry arena) (key h) → result ≡ None;
-      first : (items : List (Item Gen T)) → IsList state interlinks arena (key h) items → option_map key result ≡ first_key items;
-    }
+    pub record ReadsFirst (arena : A) (h : P) (result : Option P) : Type 0 where
+      pub none : ¬ IsHandle (entry arena) (key h) → result ≡ None
+      pub first : (items : List (Item Gen T)) → IsList state interlinks arena (key h) items → option_map key result ≡ first_key items
 
-    abbrev pub ReadsLast : A → P → Option P → Type 0
-    ReadsLast arena h result = record {
-      none : ¬ IsHandle (entry arena) (key h) → result ≡ None;
-      last : (items : List (Item Gen T)) → IsList state interlinks arena (key h) items → option_map key result ≡ last_key items;
-    }
+    pub record ReadsLast (arena : A) (h : P) (result : Option P) : Type 0 where
+      pub none : ¬ IsHandle (entry arena) (key h) → result ≡ None
+      pub last : (items : List (Item Gen T)) → IsList state interlinks arena (key h) items → option_map key result ≡ last_key items
 
     -- `next`, `prev`: the item after or before `p`.
-    abbrev pub ReadsNext : A → P → Option P → Type 0
-    ReadsNext arena p result = record {
-      none : ¬ IsItem (entry arena) (key p) → result ≡ None;
-      next : (h : ℕ × Gen) (t : T) (before after : List (Item Gen T)) → IsList state interlinks arena h (before ++ (key p, t) ∷ after) → option_map key result ≡ first_key after;
-    }
+    pub record ReadsNext (arena : A) (p : P) (result : Option P) : Type 0 where
+      pub none : ¬ IsItem (entry arena) (key p) → result ≡ None
+      pub next : (h : ℕ × Gen) (t : T) (before after : List (Item Gen T)) → IsList state interlinks arena h (before ++ (key p, t) ∷ after) → option_map key result ≡ first_key after
 
-    abbrev pub ReadsPrev : A → P → Option P → Type 0
-    ReadsPrev arena p result = record {
-      none : ¬ IsItem (entry arena) (key p) → result ≡ None;
-      prev : (h : ℕ × Gen) (t : T) (before after : List (Item Gen T)) → IsList state interlinks arena h (before ++ (key p, t) ∷ after) → option_map key result ≡ last_key before;
-    }
+    pub record ReadsPrev (arena : A) (p : P) (result : Option P) : Type 0 where
+      pub none : ¬ IsItem (entry arena) (key p) → result ≡ None
+      pub prev : (h : ℕ × Gen) (t : T) (before after : List (Item Gen T)) → IsList state interlinks arena h (before ++ (key p, t) ∷ after) → option_map key result ≡ last_key before
 
     -- `list_of`: the handle of the list of `p`.
-    abbrev pub ReadsHandle : {H : Type 0} → (H → ℕ × Gen) → A → P → Option H → Type 0
-    ReadsHandle handle_key arena p result = record {
-      none : ¬ IsItem (entry arena) (key p) → result ≡ None;
-      handle : (h : ℕ × Gen) (t : T) (before after : List (Item Gen T)) → IsList state interlinks arena h (before ++ (key p, t) ∷ after) → option_map handle_key result ≡ Some h;
-    }
+    pub record ReadsHandle {H : Type 0} (handle_key : H → ℕ × Gen) (arena : A) (p : P) (result : Option H) : Type 0 where
+      pub none : ¬ IsItem (entry arena) (key p) → result ≡ None
+      pub handle : (h : ℕ × Gen) (t : T) (before after : List (Item Gen T)) → IsList state interlinks arena h (before ++ (key p, t) ∷ after) → option_map handle_key result ≡ Some h
 
     -- `walk`: the pointers of the items of `h`.
     abbrev pub ListsItems : A → P → List P → Type 0
     ListsItems arena h pointers = (items : List (Item Gen T)) × IsList state interlinks arena (key h) items × (map key pointers ≡ pointers_of items)
 
     -- `new_list`: an empty list is created, after growth if needed.
-    abbrev pub CreatesList : ℕ → A → Result P ReallocationError → A → Type 0
-    CreatesList greatest old result new = record {
-      outcome : IsGrowthResult (RefusesOneMore (view old)) (λ q. IsListStarted state interlinks old new (key q) × GrowsForOneMore greatest (view old) (view new)) result;
-      err : OnErr result (new ≡ old);
-    }
+    pub record CreatesList (greatest : ℕ) (old : A) (result : Result P ReallocationError) (new : A) : Type 0 where
+      pub outcome : IsGrowthResult (RefusesOneMore (view old)) (λ q. IsListStarted state interlinks old new (key q) × GrowsForOneMore greatest (view old) (view new)) result
+      pub err : OnErr result (new ≡ old)
 
     -- `t` is inserted, after growth if needed, provided `may`.
-    abbrev pub AddsItem : ℕ → (may : Type 0) → (grows : A → A → Item Gen T → Type 0) → A → T → Result P ChainInsertionError → A → Type 0
-    AddsItem greatest may grows old t result new = record {
-      outcome : IsInsertionResult may (RefusesOneMore (view old)) (λ q. IsItemAdded state interlinks old new (grows old new) (key q, t) × GrowsForOneMore greatest (view old) (view new)) result;
-      err : OnErr result (new ≡ old);
-    }
+    pub record AddsItem (greatest : ℕ) (may : Type 0) (grows : A → A → Item Gen T → Type 0) (old : A) (t : T) (result : Result P ChainInsertionError) (new : A) : Type 0 where
+      pub outcome : IsInsertionResult may (RefusesOneMore (view old)) (λ q. IsItemAdded state interlinks old new (grows old new) (key q, t) × GrowsForOneMore greatest (view old) (view new)) result
+      pub err : OnErr result (new ≡ old)
 
     abbrev pub PushesFront : ℕ → A → P → T → Result P ChainInsertionError → A → Type 0
     PushesFront greatest old h t result new = AddsItem greatest (IsHandle (entry old) (key h)) (λ a b. GrowsAtStart state interlinks a b (key h)) old t result new

@@ -1,4 +1,4 @@
-use Rattle.std.proofs.Common.{[], refl, ap}
+use Rattle.std.proofs.Common.{[], ap}
 use Rattle.arena_core.proofs.PointerKindLemmas.{kind_by}
 use Rattle.arena_core.specs.Invalidation.{value_within}
 use Rattle.linked_lists.proofs.ListRemovalLemmas.{removes_list, each_list_removed}
