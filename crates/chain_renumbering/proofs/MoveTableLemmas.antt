@@ -7,8 +7,7 @@ use Rattle.std.proofs.lemmas.List.Sums.{fold_more}
 use Rattle.std.proofs.lemmas.List.Elements.{Contains-append_right}
 use Rattle.chain_laws.specs.Chains.{IsMember, AreDistinct}
 use Rattle.chain_laws.proofs.InterlinkLemmas.Inverses.{if_same, if_other}
-use Rattle.std.specs.Prelude.{slice_set}
-use Rattle.arena_traits.specs.Arena.{slot_at, with_slot}
+use Rattle.arena_traits.specs.Arena.{slot_at}
 use Rattle.arena_traits.proofs.ArenaViewLemmas.{length-with_slot}
 use Rattle.arena_traits.proofs.InsertionLemmas.{slot_at-written}
 use Rattle.chain_renumbering.specs.MoveTables.{stored_for, with_move, with_moves}
@@ -25,14 +24,9 @@ module _ {P Gen : Type 0} (key : P → ℕ × Gen) where
   abbrev pub from_index : P × P → ℕ
   from_index m = (key m.0).0
 
-  pub note_more : (table : List (Option (Gen × P))) (moves : List (P × P)) (i k : ℕ) (g : Gen) (m : P × P) → i < length moves → m ≡ get_or moves i m → k + 1 ≡ (key m.0).0 → g ≡ (key m.0).1
-      → slice_set (with_moves key table (take i moves)) k (Some (g, m.1)) ≡ with_moves key table (take (i + 1) moves)
-  note_more table moves i k g m below is at at_generation =
-      let index : suc k ≡ (key m.0).0 = omega arith in
-      let noted = with_moves key table (take i moves) in
-      ap (λ (h : Gen). slice_set noted k (Some (h, m.1))) at_generation
-      ∙ (subst (λ (j : ℕ). slice_set noted k (Some (stored_for key m)) ≡ with_slot noted j (Some (stored_for key m))) index refl
-      ∙ (ap (with_move key noted) is ∙ sym (fold_more (with_move key) table moves i m below)))
+  pub note_more : (table : List (Option (Gen × P))) (moves : List (P × P)) (i : ℕ) (m : P × P) → i < length moves → m ≡ get_or moves i m
+      → with_move key (with_moves key table (take i moves)) m ≡ with_moves key table (take (i + 1) moves)
+  note_more table moves i m below is = ap (with_move key (with_moves key table (take i moves))) is ∙ sym (fold_more (with_move key) table moves i m below)
 
   abbrev pub HasPlaces : ℕ → List (P × P) → Type 0
   HasPlaces n = AllByRecursion (λ m. (1 ≤ from_index m) × (from_index m ≤ n))

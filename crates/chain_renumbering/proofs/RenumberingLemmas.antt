@@ -33,10 +33,6 @@ module _ {P Gen T : Type 0} (key : P → ℕ × Gen) (old new : Arena Gen (LinkV
   has_places : HasPlaces key (length old.slots) moves
   has_places = recursion_from_All _ moves (λ k d below. within (key (slice_index_or moves k d).0) (moved.values k d below).0)
 
-  pub fits : (known : List (P × P)) (count : ℕ) → known ≡ moves → count ≡ length old.slots → All (λ (m : P × P). (key m.0).0 ≤ count) known
-  fits known count is long =
-      subst (All (λ (m : P × P). (key m.0).0 ≤ count)) (sym is) (λ k d below. omega (arith, long, (within (key (slice_index_or moves k d).0) (moved.values k d below).0).1))
-
   module _ (first : Gen) (following : Gen → Gen) (layout : IsCanonicalLayout first following false (value_view old) (link_map old) (value_view new) (link_map new)) (all : AreAllMoves key (value_view old) (link_map old) new.counter moves) where
     same_order : all.indexes ≡ layout.indexes
     same_order = all.order.items ∙ (ap all_items (no_others (link_map old) all.order.chains layout.order.chains all.order.are layout.order.are) ∙ sym layout.order.items)

@@ -5,7 +5,7 @@ ghost use Rattle.std.specs.Option.{option_map};
 ghost use Rattle.chain_links.specs.ChainArena.{entry, value_view, link_map};
 ghost use Rattle.chain_links.specs.CanonicalLayouts.{IsCanonicalLayout};
 ghost use Rattle.chain_renumbering.specs.Renumbering.{IsRenumbered};
-ghost use Rattle.chain_renumbering.specs.MoveTables.{with_moves, new_key_of};
+ghost use Rattle.chain_renumbering.specs.MoveTables.{with_move, with_moves, new_key_of};
 
 use arena_base::{ArenaSlot, ArenaTrait};
 use arena_ptr::{GenKey, InxKey, PtrKey, SlotStack};
@@ -81,17 +81,24 @@ fn place_of<P: PtrKey>(p: P) -> usize
     }
 }
 
+fn note_move<P: PtrKey>(table: &mut [Option<(P::Gen, P)>], from: P, to: P)
+    ensures { table.new ≡ with_move P.key table.old (from, to) }
+{
+    let i = place_of(from);
+    if i < table.len() {
+        table[i] = Some((from.generation(), to));
+    }
+}
+
 fn fill_table<P: PtrKey>(table: &mut [Option<(P::Gen, P)>], moves: &[(P, P)])
-    requires { All (λ m. (P.key m.0).0 ≤ length table.old) moves.now }
     ensures { table.new ≡ with_moves P.key table.old moves.now }
 {
     for (from, to) in moves {
-        table[place_of(*from)] = Some((from.generation(), *to));
+        note_move(table, *from, *to);
     }
 }
 
 fn renumbering_of<P: PtrKey>(table: Vec<Option<(P::Gen, P)>>, moves: &[(P, P)]) -> Renumbering<P>
-    requires { All (λ m. (P.key m.0).0 ≤ length table.items) moves.now }
     ensures { result ≡ with_moves P.key table.items moves.now }
 {
     let mut table = table;

@@ -1,9 +1,10 @@
-use Rattle.std.proofs.Common.{◌∙◌, ap, Some}
-use Rattle.std.specs.Prelude.{slice_set}
+use Rattle.std.proofs.Common.{◌∙◌, ap}
+use Rattle.chain_renumbering.specs.MoveTables.{with_move}
 use Rattle.chain_renumbering.proofs.MoveTableLemmas.{note_more}
 use Rattle.chain_renumbering.proofs.renumbering.fill_table.Goals as goal
 
 pub loop-from-preserved : goal.loop-from-preserved
 loop-from-preserved g c =
-    ap (λ t. slice_set t c.place_of.result (Some (c.generation.result, c.loop-from-item.result.1))) c.loop-from.invariant
-    ∙ note_more g.P.PtrKey.key c.args.table.now c.args.moves.now c.loop-from.from-index c.place_of.result c.generation.result c.loop-from-item.result c.loop-from-test.true c.loop-from-item.is c.place_of.ensures c.generation.ensures
+    c.note_move.ensures
+    ∙ (ap (λ t. with_move g.P.PtrKey.key t c.loop-from-item.result) c.loop-from.invariant
+    ∙ note_more g.P.PtrKey.key c.args.table.now c.args.moves.now c.loop-from.from-index c.loop-from-item.result c.loop-from-test.true c.loop-from-item.is)

@@ -1,13 +1,7 @@
-use Rattle.std.proofs.Common.{◌≡◌, length, None, ap, ◌∙◌}
-use Rattle.std.proofs.lemmas.List.{length-replicate}
+use Rattle.std.proofs.Common.{◌≡◌, length, ◌∙◌}
 use Rattle.chain_renumbering.proofs.MappedListLemmas.{length_twice}
-use Rattle.chain_renumbering.proofs.RenumberingLemmas.{fits, renumbered}
+use Rattle.chain_renumbering.proofs.RenumberingLemmas.{renumbered}
 use Rattle.chain_renumbering.proofs.renumbering.renumber.Goals as goal
-
-pub renumbering_of-requires : goal.renumbering_of-requires
-renumbering_of-requires g c =
-    fits g.P.PtrKey.key c.args.arena.now c.compress_canonical_moves.new.self c.in-Ok.moves.items c.in-Ok.ensures.by_pointer c.deref.result.now _ c.deref.ensures.value
-    (ap length c.in_ok-table.ensures ∙ (length-replicate c.len.result None ∙ (c.len.ensures ∙ length_twice _ _ _ _ c.backing.ensures.slots)))
 
 pub returns-in-Ok-clause-canonical : goal.returns-in-Ok-clause-canonical
 returns-in-Ok-clause-canonical g c = c.in-Ok.ensures.compressed.0.canonical
