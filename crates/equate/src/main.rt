@@ -5,7 +5,8 @@ mod status;
 #[cfg(test)]
 mod tests;
 
-use status::{Status, respond_to_input};
+use line_programs::Status;
+use status::respond_to_input;
 use std::io::{BufWriter, writer};
 
 fn main(rt: HostRuntime) -> Status {

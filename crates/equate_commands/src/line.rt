@@ -1,5 +1,6 @@
 //! Lines of input.
 
+use line_programs::MAX_LINE;
 use std::str;
 
 #[derive(Debug, Clone, Copy, PartialEq, Eq)]
@@ -13,9 +14,6 @@ pub enum Line<'a> {
     Class(&'a str),
     Drop(&'a str),
 }
-
-/// The greatest length in bytes.
-pub const MAX_LINE: usize = 200;
 
 /// A line that is too long, not UTF-8, or has control characters is bad.
 pub fn parse(line: &[u8]) -> Line<'_> {

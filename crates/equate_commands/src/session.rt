@@ -1,37 +1,18 @@
 //! Runs of lines.
 
 use crate::equations::Equations;
-use crate::line::{Line, MAX_LINE, parse};
+use crate::line::{Line, parse};
 use arena_base::Arena;
 use arena_ptr::{PtrKey, ToolPtr};
 use arena_traits::PlainArenaTrait;
 use chain_arena::ChainArena;
 use chain_traits::ChainArenaTrait;
-use std::alloc::{AllocError, AllocFailed, Global};
-use std::io::{ErrorKind, Read, Write};
+use line_programs::{LineSession, RunError, run_lines};
+use std::alloc::{AllocError, Global};
+use std::io::{Read, Write};
 use surject_arena::{Counted, Member};
 
-#[derive(Clone, Copy, Debug, PartialEq, Eq)]
-pub enum RunError {
-    Read,
-    Write,
-    /// An allocation failed.
-    Memory,
-}
-
-impl From<AllocError> for RunError {
-    fn from(_error: AllocError) -> RunError {
-        RunError::Memory
-    }
-}
-
-impl<T: Drop> From<AllocFailed<T>> for RunError {
-    fn from(_error: AllocFailed<T>) -> RunError {
-        RunError::Memory
-    }
-}
-
-pub type WordEquations = Equations<
+type WordSession = Session<
     ToolPtr,
     ChainArena<ToolPtr, Member<ToolPtr, String>>,
     Arena<ToolPtr, Counted<()>>,
@@ -99,80 +80,31 @@ fn respond<
     text.push_str("\n")
 }
 
-fn end_line<
+#[derive(Drop)]
+struct Session<
     P: PtrKey,
     A: ChainArenaTrait<P, Member<P, String>> + Drop,
     B: PlainArenaTrait<P, Counted<()>> + Drop,
-    W: Write,
->(
-    equations: &mut Equations<P, A, B>,
-    line: &mut Vec<u8>,
-    text: &mut String,
-    writer: &mut W,
-) -> Result<(), RunError> {
-    respond(equations, line, text)?;
-    line.clear();
-    writer.write_all(text.as_bytes()).or(Err(RunError::Write))
+> {
+    equations: Equations<P, A, B>,
+    text: String,
 }
 
-/// Keeps at most one byte above the maximum.
-fn feed<
+impl<
     P: PtrKey,
     A: ChainArenaTrait<P, Member<P, String>> + Drop,
     B: PlainArenaTrait<P, Counted<()>> + Drop,
-    W: Write,
->(
-    equations: &mut Equations<P, A, B>,
-    piece: &[u8],
-    line: &mut Vec<u8>,
-    text: &mut String,
-    writer: &mut W,
-) -> Result<(), RunError> {
-    for byte in piece {
-        if *byte == b'\n' {
-            end_line(equations, line, text, writer)?;
-        } else if line.len() <= MAX_LINE {
-            line.push(*byte)?;
-        }
+> LineSession for Session<P, A, B> {
+    fn end_line<W: Write>(&mut self, line: &[u8], writer: &mut W) -> Result<(), RunError> {
+        respond(&mut self.equations, line, &mut self.text)?;
+        writer
+            .write_all(self.text.as_bytes())
+            .or(Err(RunError::Write))
     }
-    Ok(())
-}
 
-/// Runs the lines of a reader, and flushes the writer before each read.
-pub fn run_on<
-    P: PtrKey,
-    A: ChainArenaTrait<P, Member<P, String>> + Drop,
-    B: PlainArenaTrait<P, Counted<()>> + Drop,
-    R: Read,
-    W: Write,
->(
-    alloc: Global,
-    equations: &mut Equations<P, A, B>,
-    reader: &mut R,
-    writer: &mut W,
-) -> Result<(), RunError> {
-    let mut piece = vec![in alloc; 0u8; 65536]?;
-    let mut line = Vec::new(alloc);
-    let mut text = String::new(alloc);
-    // Bounded, to be proved to end.
-    for _ in 0..u64::MAX {
-        if writer.flush().is_err() {
-            return Err(RunError::Write);
-        }
-        match reader.read(&mut piece) {
-            Ok(0) => {
-                end_line(equations, &mut line, &mut text, writer)?;
-                return writer.flush().or(Err(RunError::Write));
-            }
-            Ok(n) => feed(equations, &piece[..n], &mut line, &mut text, writer)?,
-            Err(e) => {
-                if e.kind() != ErrorKind::Interrupted {
-                    return Err(RunError::Read);
-                }
-            }
-        }
+    fn finish<W: Write>(&mut self, _writer: &mut W) -> Result<(), RunError> {
+        Ok(())
     }
-    Err(RunError::Read)
 }
 
 pub fn run<R: Read, W: Write>(
@@ -180,6 +112,9 @@ pub fn run<R: Read, W: Write>(
     reader: &mut R,
     writer: &mut W,
 ) -> Result<(), RunError> {
-    let mut equations: WordEquations = Equations::new(alloc);
-    run_on(alloc, &mut equations, reader, writer)
+    let mut session: WordSession = Session {
+        equations: Equations::new(alloc),
+        text: String::new(alloc),
+    };
+    run_lines(alloc, &mut session, reader, writer)
 }

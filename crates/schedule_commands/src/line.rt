@@ -1,6 +1,7 @@
 //! Commands.
 
 use crate::refusal::Refusal;
+use line_programs::MAX_LINE;
 use std::str;
 
 #[derive(Debug, Clone, Copy, PartialEq, Eq)]
@@ -17,9 +18,6 @@ pub enum Line<'a> {
     /// `kill NAME`
     Kill(&'a str),
 }
-
-/// The maximum, in bytes.
-pub const MAX_LINE: usize = 200;
 
 /// Priority 0 comes first.
 pub const MAX_PRIORITY: u32 = 9;

@@ -1,33 +1,15 @@
 //! Runs.
 
-use crate::line::{Line, MAX_LINE, parse};
+use crate::line::{Line, parse};
 use crate::refusal::{Refusal, reason};
 use crate::scheduler::{CommandError, Place, Scheduler};
 use arena_ptr::{PtrKey, ToolPtr};
 use chain_arena::ChainArena;
 use chain_traits::ChainArenaTrait;
+use line_programs::{LineSession, RunError, run_lines};
 use run_queues::Entry;
-use std::alloc::{AllocError, AllocFailed, Global};
-use std::io::{ErrorKind, Read, Write};
-
-#[derive(Clone, Copy, Debug, PartialEq, Eq)]
-pub enum RunError {
-    Read,
-    Write,
-    Memory,
-}
-
-impl From<AllocError> for RunError {
-    fn from(_error: AllocError) -> RunError {
-        RunError::Memory
-    }
-}
-
-impl<T: Drop> From<AllocFailed<T>> for RunError {
-    fn from(_error: AllocFailed<T>) -> RunError {
-        RunError::Memory
-    }
-}
+use std::alloc::{AllocError, Global};
+use std::io::{Read, Write};
 
 #[derive(Drop)]
 struct Session<P: PtrKey, A: ChainArenaTrait<P, Entry<Place>> + Drop> {
@@ -47,19 +29,6 @@ impl<P: PtrKey, A: ChainArenaTrait<P, Entry<Place>> + Drop> Session<P, A> {
             ticks: 0,
             alloc,
         })
-    }
-
-    fn end_line<W: Write>(&mut self, line: &[u8], writer: &mut W) -> Result<(), RunError> {
-        self.lines = self.lines.saturating_add(1);
-        match parse(line) {
-            Ok(Line::Run(turns)) => self.run_turns(turns, writer),
-            Ok(line) => match self.execute(line) {
-                Ok(()) => Ok(()),
-                Err(CommandError::Refused(refusal)) => self.refuse(refusal, writer),
-                Err(CommandError::Memory) => Err(RunError::Memory),
-            },
-            Err(refusal) => self.refuse(refusal, writer),
-        }
     }
 
     fn execute(&mut self, line: Line<'_>) -> Result<(), CommandError> {
@@ -86,63 +55,30 @@ impl<P: PtrKey, A: ChainArenaTrait<P, Entry<Place>> + Drop> Session<P, A> {
         }
         Ok(())
     }
+}
 
-    fn report<W: Write>(&self, writer: &mut W) -> Result<(), RunError> {
+impl<P: PtrKey, A: ChainArenaTrait<P, Entry<Place>> + Drop> LineSession for Session<P, A> {
+    fn end_line<W: Write>(&mut self, line: &[u8], writer: &mut W) -> Result<(), RunError> {
+        self.lines = self.lines.saturating_add(1);
+        match parse(line) {
+            Ok(Line::Run(turns)) => self.run_turns(turns, writer),
+            Ok(line) => match self.execute(line) {
+                Ok(()) => Ok(()),
+                Err(CommandError::Refused(refusal)) => self.refuse(refusal, writer),
+                Err(CommandError::Memory) => Err(RunError::Memory),
+            },
+            Err(refusal) => self.refuse(refusal, writer),
+        }
+    }
+
+    /// Writes the turns of each task.
+    fn finish<W: Write>(&mut self, writer: &mut W) -> Result<(), RunError> {
         for task in self.scheduler.tasks() {
             let text = format!(in self.alloc; "{} {}\n", task.name(), task.turns())?;
             writer.write_all(text.as_bytes()).or(Err(RunError::Write))?;
         }
         Ok(())
     }
-
-    /// One byte too many is enough to refuse a line.
-    fn feed<W: Write>(
-        &mut self,
-        piece: &[u8],
-        line: &mut Vec<u8>,
-        writer: &mut W,
-    ) -> Result<(), RunError> {
-        for byte in piece {
-            if *byte == b'\n' {
-                self.end_line(line, writer)?;
-                line.clear();
-            } else if line.len() <= MAX_LINE {
-                line.push(*byte)?;
-            }
-        }
-        Ok(())
-    }
-}
-
-/// Flushes before each read.
-fn run_on<P: PtrKey, A: ChainArenaTrait<P, Entry<Place>> + Drop, R: Read, W: Write>(
-    session: &mut Session<P, A>,
-    reader: &mut R,
-    writer: &mut W,
-) -> Result<(), RunError> {
-    let alloc = session.alloc;
-    let mut piece = vec![in alloc; 0u8; 65536]?;
-    let mut line = Vec::new(alloc);
-    // Bounded, since each loop is proved to end.
-    for _ in 0..u64::MAX {
-        if writer.flush().is_err() {
-            return Err(RunError::Write);
-        }
-        match reader.read(&mut piece) {
-            Ok(0) => {
-                session.end_line(&line, writer)?;
-                session.report(writer)?;
-                return writer.flush().or(Err(RunError::Write));
-            }
-            Ok(n) => session.feed(&piece[..n], &mut line, writer)?,
-            Err(e) => {
-                if e.kind() != ErrorKind::Interrupted {
-                    return Err(RunError::Read);
-                }
-            }
-        }
-    }
-    Err(RunError::Read)
 }
 
 pub fn run<R: Read, W: Write>(
@@ -151,5 +87,5 @@ pub fn run<R: Read, W: Write>(
     writer: &mut W,
 ) -> Result<(), RunError> {
     let mut session: ToolSession = Session::new(alloc)?;
-    run_on(&mut session, reader, writer)
+    run_lines(alloc, &mut session, reader, writer)
 }
