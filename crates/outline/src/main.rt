@@ -5,7 +5,8 @@ mod status;
 #[cfg(test)]
 mod tests;
 
-use status::{Status, edit_input};
+use line_programs::Status;
+use status::edit_input;
 use std::io::{BufWriter, writer};
 
 fn main(rt: HostRuntime) -> Status {

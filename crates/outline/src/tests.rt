@@ -1,4 +1,4 @@
-//! Tests of lines, random changes and runs.
+//! Tests of lines, random changes and a fault. Those of `schedule` have the other faults.
 
 mod model;
 
@@ -10,8 +10,8 @@ use outline_commands::refusal::Refusal;
 use outline_commands::session::{Session, ToolSession};
 use std::alloc::{AllocError, Global};
 use std::io;
-use std::io::{BufWriter, ErrorKind, Read, Write, sink};
-use std::process::{Abort, ExitCode, Termination};
+use std::io::{ErrorKind, Sink};
+use std::process::{ExitCode, Termination};
 
 const LINES: [(&str, Result<Line<'static>, Refusal>); 37] = [
     ("", Ok(Line::Blank)),
@@ -178,48 +178,13 @@ fn random_changes_are_those_of_the_model(rt: HostRuntime) {
     }
 }
 
-#[derive(Drop)]
-struct Failing;
-
-impl Read for Failing {
-    fn read(&mut self, _buf: &mut [u8]) -> io::Result<usize> {
-        Err(io::Error::from(ErrorKind::Other))
-    }
-}
-
-impl Write for Failing {
-    fn write(&mut self, _buf: &[u8]) -> io::Result<usize> {
-        Err(io::Error::from(ErrorKind::Other))
-    }
-
-    fn flush(&mut self) -> io::Result<()> {
-        Err(io::Error::from(ErrorKind::Other))
-    }
-}
-
-fn check<R: Read + Drop, W: Write + Drop>(
-    rt: &(impl Abort + Eprint),
-    alloc: Global,
-    mut reader: R,
-    writer: io::Result<W>,
-    want: (ExitCode, &str),
-) {
-    let mut errors = Vec::new(alloc);
-    let status = edit_input(alloc, &mut reader, writer, &mut errors);
-    let is_reported = status.report(rt) == want.0 && errors.as_slice() == want.1.as_bytes();
-    assert!(rt; is_reported, "{}", want.1);
-}
-
 #[test]
 fn a_fault_ends_the_run_with_status_2(rt: HostRuntime) {
     let alloc = rt.alloc();
-    let lines = "document a\nlist\n".as_bytes();
-    check(&rt, alloc, lines, Ok(sink()), (ExitCode::SUCCESS, ""));
-    let want = (ExitCode::from(2), "outline: cannot read\n");
-    check(&rt, alloc, Failing, Ok(sink()), want);
-    let want = (ExitCode::from(2), "outline: cannot write\n");
-    check(&rt, alloc, lines, BufWriter::new(alloc, Failing), want);
-    let refused: io::Result<Failing> = Err(io::Error::from(ErrorKind::OutOfMemory));
-    let want = (ExitCode::from(2), "outline: no memory\n");
-    check(&rt, alloc, lines, refused, want);
+    let mut errors = Vec::new(alloc);
+    let refused: io::Result<Sink> = Err(io::Error::from(ErrorKind::OutOfMemory));
+    let status = edit_input(alloc, &mut "list\n".as_bytes(), refused, &mut errors);
+    let is_reported = status.report(&rt) == ExitCode::from(2)
+        && errors.as_slice() == b"outline: no memory\n".as_slice();
+    assert!(rt; is_reported);
 }

@@ -4,6 +4,7 @@ ghost use Rattle.std.specs.Prelude.{◌≡◌, IfOk};
 ghost use Rattle.std.specs.Str.Parse.{digits_value, without_leading_plus};
 
 use crate::refusal::Refusal;
+use line_programs::MAX_LINE;
 use std::str;
 
 /// A command and its words, in order.
@@ -35,9 +36,6 @@ pub enum Place<'a> {
     First(&'a str),
     Last(&'a str),
 }
-
-/// The maximum length in bytes.
-pub const MAX_LINE: usize = 200;
 
 /// Parses words from the left and returns the first error.
 pub fn parse(line: &[u8]) -> Result<Line<'_>, Refusal> {

@@ -2,34 +2,15 @@
 
 use crate::command_error::CommandError;
 use crate::editor::{Editor, Paragraph};
-use crate::line::{Line, MAX_LINE, parse};
+use crate::line::{Line, parse};
 use crate::refusal::{Refusal, reason};
 use arena_ptr::{PtrKey, ToolPtr};
 use chain_arena::ChainArena;
 use chain_renumbering::RenumberChainArenaTrait;
 use documents::Entry;
-use std::alloc::{AllocError, AllocFailed, Global};
-use std::io::{ErrorKind, Read, Write};
-
-/// Why a run failed.
-#[derive(Clone, Copy, Debug, PartialEq, Eq)]
-pub enum RunError {
-    Read,
-    Write,
-    Memory,
-}
-
-impl From<AllocError> for RunError {
-    fn from(_error: AllocError) -> RunError {
-        RunError::Memory
-    }
-}
-
-impl<T: Drop> From<AllocFailed<T>> for RunError {
-    fn from(_error: AllocFailed<T>) -> RunError {
-        RunError::Memory
-    }
-}
+use line_programs::{LineSession, RunError, run_lines};
+use std::alloc::{AllocError, Global};
+use std::io::{Read, Write};
 
 /// An editor, the number of lines so far, and the response to the last one.
 #[derive(Drop)]
@@ -157,61 +138,20 @@ impl<P: PtrKey, A: RenumberChainArenaTrait<P, Entry<Paragraph>> + Drop> Session<
         }
         Ok(())
     }
+}
 
-    // Keeps one byte over `MAX_LINE`, so that `parse` refuses the line.
-    fn feed<W: Write>(
-        &mut self,
-        piece: &[u8],
-        line: &mut Vec<u8>,
-        writer: &mut W,
-    ) -> Result<(), RunError> {
-        for byte in piece {
-            if *byte == b'\n' {
-                self.end_line(line, writer)?;
-                line.clear();
-            } else if line.len() <= MAX_LINE {
-                line.push(*byte)?;
-            }
-        }
-        Ok(())
-    }
-
+impl<P: PtrKey, A: RenumberChainArenaTrait<P, Entry<Paragraph>> + Drop> LineSession
+    for Session<P, A> {
     fn end_line<W: Write>(&mut self, line: &[u8], writer: &mut W) -> Result<(), RunError> {
         let response = self.respond(line)?;
         writer
             .write_all(response.as_bytes())
             .or(Err(RunError::Write))
     }
-}
 
-// Flushes the writer before each read.
-fn run_on<P: PtrKey, A: RenumberChainArenaTrait<P, Entry<Paragraph>> + Drop, R: Read, W: Write>(
-    session: &mut Session<P, A>,
-    reader: &mut R,
-    writer: &mut W,
-) -> Result<(), RunError> {
-    let alloc = session.alloc;
-    let mut piece = vec![in alloc; 0u8; 65536]?;
-    let mut line = Vec::new(alloc);
-    // Bounded, since each loop is proved to end.
-    for _ in 0..u64::MAX {
-        if writer.flush().is_err() {
-            return Err(RunError::Write);
-        }
-        match reader.read(&mut piece) {
-            Ok(0) => {
-                session.end_line(&line, writer)?;
-                return writer.flush().or(Err(RunError::Write));
-            }
-            Ok(n) => session.feed(&piece[..n], &mut line, writer)?,
-            Err(e) => {
-                if e.kind() != ErrorKind::Interrupted {
-                    return Err(RunError::Read);
-                }
-            }
-        }
+    fn finish<W: Write>(&mut self, _writer: &mut W) -> Result<(), RunError> {
+        Ok(())
     }
-    Err(RunError::Read)
 }
 
 /// Executes the lines of a reader and writes the responses.
@@ -221,5 +161,5 @@ pub fn run<R: Read, W: Write>(
     writer: &mut W,
 ) -> Result<(), RunError> {
     let mut session: ToolSession = Session::new(alloc)?;
-    run_on(&mut session, reader, writer)
+    run_lines(alloc, &mut session, reader, writer)
 }
