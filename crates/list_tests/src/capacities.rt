@@ -1,30 +1,39 @@
 //! Upper bounds of capacities, and a maximum.
 
-use arena_base::ArenaSlot;
-use arena_ptr::{
-    ChainInsertionError, HeapStack, LimitedStack, PtrKey, ReallocationError, SlotStack, ToolPtr,
-};
-use chain_arena::{ChainArena, LinkNoGen};
+use crate::values::Values;
+use arena_ptr::{ChainInsertionError, PtrKey, ReallocationError};
 use chain_traits::ChainArenaTrait;
 use linked_lists::{Entry, LinkedLists, ListHandle};
 use std::alloc::Global;
-use std::process::Abort;
-use test_types::EightSlots;
-
-type Slot = ArenaSlot<ToolPtr, LinkNoGen<ToolPtr, Entry<u32>>>;
 
 fn double(n: usize) -> usize {
     n.saturating_mul(2)
 }
 
+fn is_maximum(error: Option<ReallocationError>) -> bool {
+    match error {
+        Some(ReallocationError::BeyondMaxCapacity) => true,
+        _ => false,
+    }
+}
+
+fn is_insertion_maximum(error: Option<ChainInsertionError>) -> bool {
+    match error {
+        Some(ChainInsertionError::BeyondMaxCapacity) => true,
+        _ => false,
+    }
+}
+
 // Returns whether the capacity stays below twice the number of links and 8 while items are
 // inserted.
-fn insertions_are_bounded<P: PtrKey, A: ChainArenaTrait<P, Entry<u32>> + Drop>(
-    lists: &mut LinkedLists<P, u32, A>,
-    h: ListHandle<P>,
+fn insertions_are_bounded<P: PtrKey, T: Drop, A: ChainArenaTrait<P, Entry<T>> + Drop, V: Values<T>>(
+    lists: &mut LinkedLists<P, T, A>,
 ) -> bool {
-    for n in 0..500 {
-        if lists.push_back(h, n).is_err() {
+    let Ok(h) = lists.new_list() else {
+        return false;
+    };
+    for _ in 0..500 {
+        if lists.push_back(h, V::value_of(7)).is_err() {
             return false;
         }
         if lists.capacity() >= double(lists.len()).saturating_add(8) {
@@ -36,8 +45,8 @@ fn insertions_are_bounded<P: PtrKey, A: ChainArenaTrait<P, Entry<u32>> + Drop>(
 
 // Reserves capacity, and returns whether the new one suffices, and is at most what is needed or
 // twice the former one.
-fn reservation_is_bounded<P: PtrKey, A: ChainArenaTrait<P, Entry<u32>> + Drop>(
-    lists: &mut LinkedLists<P, u32, A>,
+fn reservation_is_bounded<P: PtrKey, T: Drop, A: ChainArenaTrait<P, Entry<T>> + Drop>(
+    lists: &mut LinkedLists<P, T, A>,
     additional: usize,
 ) -> bool {
     let former = lists.capacity();
@@ -49,88 +58,98 @@ fn reservation_is_bounded<P: PtrKey, A: ChainArenaTrait<P, Entry<u32>> + Drop>(
     needed <= capacity && (capacity <= needed || capacity <= double(former))
 }
 
-// Returns whether capacities are bounded, for an arena without a maximum.
-fn capacities_are_bounded<P: PtrKey, A: ChainArenaTrait<P, Entry<u32>> + Drop>(
-    alloc: Global,
-    lists: &mut LinkedLists<P, u32, A>,
+// Returns whether that holds for several reservations.
+fn reservations_are_bounded<P: PtrKey, T: Drop, A: ChainArenaTrait<P, Entry<T>> + Drop>(
+    lists: &mut LinkedLists<P, T, A>,
 ) -> bool {
     for additional in [5, 8, 9, 100, 100, 101, 1_000] {
         if !reservation_is_bounded(lists, additional) {
             return false;
         }
     }
-    let mut others = LinkedLists::<P, u32, A>::new(alloc);
-    match others.new_list() {
-        Ok(h) => insertions_are_bounded(&mut others, h)
-            && reservation_is_bounded(&mut others, 3_000),
-        Err(_) => false,
-    }
+    true
 }
 
 // Returns whether a reservation is refused because of the maximum, and the capacity stays.
-fn is_beyond<P: PtrKey, A: ChainArenaTrait<P, Entry<u32>> + Drop>(
-    lists: &mut LinkedLists<P, u32, A>,
+fn is_beyond<P: PtrKey, T: Drop, A: ChainArenaTrait<P, Entry<T>> + Drop>(
+    lists: &mut LinkedLists<P, T, A>,
     additional: usize,
 ) -> bool {
     let (len, capacity) = (lists.len(), lists.capacity());
-    lists.reserve(additional) == Err(ReallocationError::BeyondMaxCapacity)
+    is_maximum(lists.reserve(additional).err())
         && lists.len() == len
         && lists.capacity() == capacity
 }
 
-// Returns whether six more links fit, and no further item or list, nor a split.
-fn six_links_fit<P: PtrKey, A: ChainArenaTrait<P, Entry<u32>> + Drop>(
-    lists: &mut LinkedLists<P, u32, A>,
-    h: ListHandle<P>,
-    p: P,
+// Returns whether these reservations succeed, if that is wanted, or else are refused.
+fn reservations_hold<P: PtrKey, T: Drop, A: ChainArenaTrait<P, Entry<T>> + Drop>(
+    lists: &mut LinkedLists<P, T, A>,
+    rows: &[(usize, bool)],
 ) -> bool {
-    for n in 0..6 {
-        if lists.push_back(h, n).is_err() {
+    for (additional, fits) in rows {
+        let holds = if *fits {
+            lists.reserve(*additional).is_ok() && lists.capacity() >= *additional
+        } else {
+            is_beyond(lists, *additional)
+        };
+        if !holds {
             return false;
         }
     }
-    lists.push_front(h, 6).err() == Some(ChainInsertionError::BeyondMaxCapacity)
-        && lists.new_list().err() == Some(ReallocationError::BeyondMaxCapacity)
-        && lists.split_at(p).err() == Some(ReallocationError::BeyondMaxCapacity)
+    true
+}
+
+// Returns whether six more links fit, and no further item or list, nor a split.
+fn six_links_fit<P: PtrKey, T: Drop, A: ChainArenaTrait<P, Entry<T>> + Drop, V: Values<T>>(
+    lists: &mut LinkedLists<P, T, A>,
+    (h, p): (ListHandle<P>, P),
+) -> bool {
+    for _ in 0..6 {
+        if lists.push_back(h, V::value_of(7)).is_err() {
+            return false;
+        }
+    }
+    is_insertion_maximum(lists.push_front(h, V::value_of(7)).err())
+        && is_maximum(lists.new_list().err())
+        && is_maximum(lists.split_at(p).err())
         && lists.len() == 8
 }
 
 // Returns whether reservations within a maximum of eight succeed, and all others are refused.
-fn maximum_holds<P: PtrKey, A: ChainArenaTrait<P, Entry<u32>> + Drop>(
-    lists: &mut LinkedLists<P, u32, A>,
-) -> Result<bool, ChainInsertionError> {
-    let before = is_beyond(lists, 9) && lists.reserve(3).is_ok() && lists.capacity() >= 3;
-    let h = lists.new_list()?;
-    let p = lists.push_back(h, 7)?;
-    let beyond = is_beyond(lists, 7) && is_beyond(lists, usize::MAX);
-    let within = lists.reserve(6).is_ok() && lists.capacity() == 8 && is_beyond(lists, 7);
-    Ok(before && beyond && within && six_links_fit(lists, h, p))
-}
-
-// Returns whether capacities are bounded as the maximum states.
-fn bounds_hold<P: PtrKey, A: ChainArenaTrait<P, Entry<u32>> + Drop>(
-    alloc: Global,
-    maximum: Option<usize>,
+fn maximum_holds<P: PtrKey, T: Drop, A: ChainArenaTrait<P, Entry<T>> + Drop, V: Values<T>>(
+    lists: &mut LinkedLists<P, T, A>,
 ) -> bool {
-    let mut lists = LinkedLists::<P, u32, A>::new(alloc);
-    let same = lists.max_capacity() == maximum;
-    match maximum {
-        Some(_) => same && maximum_holds(&mut lists) == Ok(true),
-        None => same && capacities_are_bounded(alloc, &mut lists),
+    let before = reservations_hold(lists, [(9, false), (3, true)].as_slice());
+    let Ok(h) = lists.new_list() else {
+        return false;
+    };
+    let Ok(p) = lists.push_back(h, V::value_of(7)) else {
+        return false;
+    };
+    let rows = [(7, false), (usize::MAX, false), (6, true), (7, false)];
+    let after = reservations_hold(lists, rows.as_slice());
+    before && after && lists.capacity() == 8 && six_links_fit::<P, T, A, V>(lists, (h, p))
+}
+
+// Returns whether capacities are bounded without a maximum, for two collections without items.
+fn are_bounded<P: PtrKey, T: Drop, A: ChainArenaTrait<P, Entry<T>> + Drop, V: Values<T>>(
+    lists: &mut LinkedLists<P, T, A>,
+    others: &mut LinkedLists<P, T, A>,
+) -> bool {
+    reservations_are_bounded(lists)
+        && insertions_are_bounded::<P, T, A, V>(others)
+        && reservation_is_bounded(others, 3_000)
+}
+
+// Returns the maximum, or 0 if there is none, or 1 if capacities are not bounded so.
+pub fn outcome<P: PtrKey, T: Drop, A: ChainArenaTrait<P, Entry<T>> + Drop, V: Values<T>>(
+    alloc: Global,
+) -> u32 {
+    let mut lists = LinkedLists::<P, T, A>::new(alloc);
+    let mut others = LinkedLists::<P, T, A>::new(alloc);
+    match lists.max_capacity() {
+        Some(8) if maximum_holds::<P, T, A, V>(&mut lists) => 8,
+        None if are_bounded::<P, T, A, V>(&mut lists, &mut others) => 0,
+        _ => 1,
     }
-}
-
-// Only this body names the arena, since naming it is the cost.
-fn over_stack<S: SlotStack<Item = Slot>>(rt: &impl Abort, alloc: Global, maximum: Option<usize>) {
-    assert!(rt; bounds_hold::<ToolPtr, ChainArena<ToolPtr, Entry<u32>, S>>(alloc, maximum));
-}
-
-#[test]
-fn capacities_have_upper_bounds(rt: HostRuntime) {
-    over_stack::<HeapStack<Slot>>(&rt, rt.alloc(), None);
-}
-
-#[test]
-fn a_maximum_limits_capacities(rt: HostRuntime) {
-    over_stack::<EightSlots<LimitedStack<Slot>>>(&rt, rt.alloc(), Some(8));
 }

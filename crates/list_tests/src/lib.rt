@@ -16,3 +16,7 @@ mod random_lists;
 mod random_queues;
 #[cfg(test)]
 mod renumbering;
+#[cfg(test)]
+mod suites;
+#[cfg(test)]
+mod values;

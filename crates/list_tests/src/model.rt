@@ -286,48 +286,6 @@ fn put<P: PtrKey>(items: &mut Vec<Item<P>>, at: usize, item: Item<P>) -> Result<
     Ok(())
 }
 
-// Takes out the items of a list from one position to another, with both.
-fn cut<P: PtrKey>(
-    alloc: Global,
-    items: &mut Vec<Item<P>>,
-    h: P,
-    (from, to): (usize, usize),
-) -> Result<Vec<Item<P>>, AllocError> {
-    let mut part = Vec::new(alloc);
-    let mut rest = Vec::new(alloc);
-    let mut n: usize = 0;
-    for e in items.as_slice() {
-        if e.h.is_same(h) && from <= n && n <= to {
-            part.push(*e)?;
-        } else {
-            rest.push(*e)?;
-        }
-        n = n.saturating_add(1);
-    }
-    *items = rest;
-    Ok(part)
-}
-
-// Inserts items at a position, into a list.
-fn paste<P: PtrKey>(
-    items: &mut Vec<Item<P>>,
-    part: &[Item<P>],
-    h: P,
-    at: usize,
-) -> Result<(), AllocError> {
-    let mut n = at;
-    for e in part {
-        let item = Item {
-            p: e.p,
-            value: e.value,
-            h,
-        };
-        put(items, n, item)?;
-        n = n.saturating_add(1);
-    }
-    Ok(())
-}
-
 // Returns the handle or the item that a goal names.
 pub fn pointer_of<P: PtrKey>(goal: Goal<P>) -> P {
     match goal {
@@ -382,97 +340,109 @@ fn range_without<P: PtrKey>(
     }
 }
 
+// Returns the pointer of the item after another one in its list.
+fn next_of<P: PtrKey>(items: &[Item<P>], p: P) -> Option<P> {
+    let (place, h) = place_of(items, p)?;
+    let mut n: usize = 0;
+    for e in items {
+        if n > place && e.h.is_same(h) {
+            return Some(e.p);
+        }
+        n = n.saturating_add(1);
+    }
+    None
+}
+
+// Moves an item to a goal that is not beside itself.
+fn move_to<P: PtrKey>(model: &mut Model<P>, p: P, goal: Goal<P>) -> Result<(), AllocError> {
+    match place_of(model.items.as_slice(), p) {
+        Some((n, _)) if n < model.items.len() => {
+            let value = model.items.remove(n).value;
+            match place_of_goal(&*model, goal) {
+                Some((at, h)) => put(&mut model.items, at, Item { p, value, h }),
+                None => Ok(()),
+            }
+        }
+        _ => Ok(()),
+    }
+}
+
+// Moves the items from `first` to `last`, or to the end of their list if `last` is invalid.
+fn move_all<P: PtrKey>(
+    model: &mut Model<P>,
+    (first, last): (P, P),
+    goal: Goal<P>,
+) -> Result<(), AllocError> {
+    let mut p = first;
+    let mut to = goal;
+    for _ in 0..model.items.len() {
+        let next = next_of(model.items.as_slice(), p);
+        move_to(model, p, to)?;
+        match next {
+            Some(q) if !p.is_same(last) => {
+                to = Goal::After(p);
+                p = q;
+            }
+            _ => return Ok(()),
+        }
+    }
+    Ok(())
+}
+
 // Moves the items from one to another.
 fn move_range<P: PtrKey>(
-    alloc: Global,
     model: &mut Model<P>,
     range: (P, P),
     goal: Goal<P>,
 ) -> Result<Reply<P>, AllocError> {
-    let Some((places, h)) = range_without(model.items.as_slice(), range, goal) else {
+    if range_without(model.items.as_slice(), range, goal).is_none() {
         return Ok(Reply::NotRange);
-    };
+    }
     if place_of_goal(&*model, goal).is_none() {
         return Ok(Reply::Refused);
     }
-    let part = cut(alloc, &mut model.items, h, places)?;
-    if let Some((at, k)) = place_of_goal(&*model, goal) {
-        paste(&mut model.items, part.as_slice(), k, at)?;
-    }
+    move_all(model, range, goal)?;
     Ok(Reply::Done)
 }
 
 // Moves an item.
-fn move_one<P: PtrKey>(
-    alloc: Global,
-    model: &mut Model<P>,
-    p: P,
-    goal: Goal<P>,
-) -> Result<Reply<P>, AllocError> {
-    match move_range(alloc, model, (p, p), goal)? {
+fn move_one<P: PtrKey>(model: &mut Model<P>, p: P, goal: Goal<P>) -> Result<Reply<P>, AllocError> {
+    match move_range(model, (p, p), goal)? {
         Reply::Done => Ok(Reply::Done),
         _ => Ok(Reply::Refused),
     }
 }
 
 // Moves the first item of a list to the end of another one.
-fn wake_one<P: PtrKey>(
-    alloc: Global,
-    model: &mut Model<P>,
-    h: P,
-    k: P,
-) -> Result<Reply<P>, AllocError> {
+fn wake_one<P: PtrKey>(model: &mut Model<P>, h: P, k: P) -> Result<Reply<P>, AllocError> {
     let Some(p) = first_of(model.items.as_slice(), h) else {
         return Ok(Reply::Refused);
     };
-    match move_one(alloc, model, p, Goal::Back(k))? {
+    match move_one(model, p, Goal::Back(k))? {
         Reply::Done => Ok(Reply::Pointer(p)),
         _ => Ok(Reply::Refused),
     }
 }
 
-// Moves the items of a list from a position on to the end of another list.
-fn move_tail<P: PtrKey>(
-    alloc: Global,
-    model: &mut Model<P>,
-    (h, from): (P, usize),
-    k: P,
-) -> Result<(), AllocError> {
-    let count = model.items.len();
-    let part = cut(alloc, &mut model.items, h, (from, count))?;
-    paste(&mut model.items, part.as_slice(), k, count)
-}
-
 // Moves all items of the second list behind those of the first.
-fn join<P: PtrKey>(
-    alloc: Global,
-    model: &mut Model<P>,
-    h: P,
-    k: P,
-) -> Result<Reply<P>, AllocError> {
+fn join<P: PtrKey>(model: &mut Model<P>, h: P, k: P) -> Result<Reply<P>, AllocError> {
     let handles = model.handles.as_slice();
-    if place_of_list(handles, h).is_none() || place_of_list(handles, k).is_none() {
+    if place_of_list(handles, h).is_none() || place_of_list(handles, k).is_none() || h.is_same(k) {
         return Ok(Reply::Refused);
     }
-    if h.is_same(k) {
-        return Ok(Reply::Refused);
+    if let Some(p) = first_of(model.items.as_slice(), k) {
+        move_all(model, (p, P::invalid()), Goal::Back(h))?;
     }
-    move_tail(alloc, model, (k, 0), h)?;
     Ok(Reply::Done)
 }
 
-// Moves the items of a list from `p` on to the new list `k`.
-fn split<P: PtrKey>(
-    alloc: Global,
-    model: &mut Model<P>,
-    p: P,
-    k: P,
-) -> Result<Reply<P>, AllocError> {
-    let Some((n, h)) = place_of(model.items.as_slice(), p) else {
+// Moves an item and those behind it into the new list `k`.
+fn split<P: PtrKey>(model: &mut Model<P>, p: P, k: P) -> Result<Reply<P>, AllocError> {
+    if place_of(model.items.as_slice(), p).is_none() {
         return Ok(Reply::Refused);
-    };
+    }
     model.handles.push(k)?;
-    move_tail(alloc, model, (h, n), k)?;
+    move_all(model, (p, P::invalid()), Goal::Back(k))?;
     Ok(Reply::Pointer(k))
 }
 
@@ -512,39 +482,61 @@ fn add_stale<P: PtrKey>(stale: &mut Vec<P>, p: P) -> Result<(), AllocError> {
 }
 
 // Removes an item, and returns its value.
-fn take<P: PtrKey>(model: &mut Model<P>, p: P) -> Result<Option<u32>, AllocError> {
+fn take<P: PtrKey>(model: &mut Model<P>, p: P) -> Result<Reply<P>, AllocError> {
     match place_of(model.items.as_slice(), p) {
         Some((n, _)) if n < model.items.len() => {
             add_stale(&mut model.stale, p)?;
-            Ok(Some(model.items.remove(n).value))
+            Ok(Reply::Value(model.items.remove(n).value))
         }
-        _ => Ok(None),
+        _ => Ok(Reply::Refused),
     }
 }
 
-// Removes a list and its items, and returns how many they were.
-fn drop_list<P: PtrKey>(
-    alloc: Global,
-    model: &mut Model<P>,
-    h: P,
-) -> Result<Option<usize>, AllocError> {
-    let place = match place_of_list(model.handles.as_slice(), h) {
-        Some(place) if place < model.handles.len() => place,
-        _ => return Ok(None),
-    };
-    model.handles.swap_remove(place);
-    let count = model.items.len();
-    let part = cut(alloc, &mut model.items, h, (0, count))?;
-    for e in part.as_slice() {
-        add_stale(&mut model.stale, e.p)?;
+// Removes the items of a list, and returns how many they were.
+fn take_all<P: PtrKey>(model: &mut Model<P>, h: P) -> Result<usize, AllocError> {
+    let mut count: usize = 0;
+    for _ in 0..model.items.len() {
+        let Some(p) = first_of(model.items.as_slice(), h) else {
+            return Ok(count);
+        };
+        take(model, p)?;
+        count = count.saturating_add(1);
     }
-    add_stale(&mut model.stale, h)?;
-    Ok(Some(part.len()))
+    Ok(count)
+}
+
+// Removes a list and its items, and returns how many they were.
+fn drop_list<P: PtrKey>(model: &mut Model<P>, h: P) -> Result<Reply<P>, AllocError> {
+    match place_of_list(model.handles.as_slice(), h) {
+        Some(place) if place < model.handles.len() => {
+            model.handles.swap_remove(place);
+            let count = take_all(model, h)?;
+            add_stale(&mut model.stale, h)?;
+            Ok(Reply::Count(count))
+        }
+        _ => Ok(Reply::Refused),
+    }
+}
+
+// Makes a call that moves items.
+fn move_items<P: PtrKey>(
+    model: &mut Model<P>,
+    call: Call<P>,
+    new: P,
+) -> Result<Reply<P>, AllocError> {
+    match call {
+        Call::Move(p, goal) => move_one(model, p, goal),
+        Call::MoveRange(range, goal) => move_range(model, range, goal),
+        Call::Join(h, k) => join(model, h, k),
+        Call::Split(p) => split(model, p, new),
+        Call::WakeOne(h, k) => wake_one(model, h, k),
+        Call::Reserve(n) => Ok(Reply::Count(n)),
+        _ => Ok(Reply::Refused),
+    }
 }
 
 // Makes a call, and returns its reply. `new` is the pointer of what it inserts.
 fn make_call<P: PtrKey>(
-    alloc: Global,
     model: &mut Model<P>,
     call: Call<P>,
     new: P,
@@ -558,14 +550,9 @@ fn make_call<P: PtrKey>(
         Call::Replace(p, value) | Call::Write(p, value) => {
             Ok(value_reply(replace(model.items.as_mut_slice(), p, value)))
         }
-        Call::Remove(p) => Ok(value_reply(take(model, p)?)),
-        Call::RemoveList(h) => Ok(count_reply(drop_list(alloc, model, h)?)),
-        Call::Move(p, goal) => move_one(alloc, model, p, goal),
-        Call::MoveRange(range, goal) => move_range(alloc, model, range, goal),
-        Call::Join(h, k) => join(alloc, model, h, k),
-        Call::Split(p) => split(alloc, model, p, new),
-        Call::Reserve(n) => Ok(Reply::Count(n)),
-        Call::WakeOne(h, k) => wake_one(alloc, model, h, k),
+        Call::Remove(p) => take(model, p),
+        Call::RemoveList(h) => drop_list(model, h),
+        _ => move_items(model, call, new),
     }
 }
 
@@ -579,11 +566,20 @@ fn pointer_in<P: PtrKey>(reply: &Reply<P>) -> P {
 
 // Makes a call, and returns whether this is its reply.
 pub fn is_reply<P: PtrKey>(
-    alloc: Global,
     model: &mut Model<P>,
     call: Call<P>,
     reply: Reply<P>,
 ) -> Result<bool, AllocError> {
     let new = pointer_in(&reply);
-    Ok(are_same_replies(reply, make_call(alloc, model, call, new)?))
+    Ok(are_same_replies(reply, make_call(model, call, new)?))
+}
+
+// Returns a seed and the number of a call after which there is a difference as one number: the seed
+// from 1 on times 1_000, and the call. Memory that is lacking counts as call 999.
+pub fn failure_at(seed: u32, difference: Result<u32, AllocError>) -> u32 {
+    let thousands = seed.saturating_add(1).saturating_mul(1_000);
+    match difference {
+        Ok(call) => thousands.saturating_add(call),
+        Err(_) => thousands.saturating_add(999),
+    }
 }

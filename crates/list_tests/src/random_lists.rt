@@ -2,24 +2,18 @@
 
 use crate::model::{
     Call, Goal, Item, Model, Reply, are_items_of, are_same, bit_of, count_reply, done_reply,
-    growth_error, insertion_reply, is_refused_memory, is_reply, list_reply, new_model, pointer_of,
-    random, random_handle, random_item, random_later, value_reply,
+    failure_at, growth_error, insertion_reply, is_refused_memory, is_reply, list_reply, new_model,
+    pointer_of, random, random_handle, random_item, random_later, value_reply,
 };
-use arena_base::ArenaSlot;
-use arena_ptr::{HeapStack, PtrKey, SlotStack, ToolPtr};
-use chain_arena::{ChainArena, LinkNoGen};
+use crate::values::{Values, has_number, number_in, write_in};
+use arena_ptr::PtrKey;
 use chain_traits::ChainArenaTrait;
 use linked_lists::{Entry, LinkedLists, ListHandle};
 use std::alloc::{AllocError, Global};
-use std::process::Abort;
-use test_types::FailingStack;
-use test_types::calls::overwrite;
-
-type Slot = ArenaSlot<ToolPtr, LinkNoGen<ToolPtr, Entry<u32>>>;
 
 // Returns whether reads find no item at `p`.
-fn is_no_item<P: PtrKey, A: ChainArenaTrait<P, Entry<u32>> + Drop>(
-    lists: &LinkedLists<P, u32, A>,
+fn is_no_item<P: PtrKey, T: Drop, A: ChainArenaTrait<P, Entry<T>> + Drop>(
+    lists: &LinkedLists<P, T, A>,
     p: P,
 ) -> bool {
     !lists.is_item(p)
@@ -30,9 +24,9 @@ fn is_no_item<P: PtrKey, A: ChainArenaTrait<P, Entry<u32>> + Drop>(
 }
 
 // Returns whether reads find no list at `p`.
-fn is_no_list<P: PtrKey, A: ChainArenaTrait<P, Entry<u32>> + Drop>(
+fn is_no_list<P: PtrKey, T: Drop, A: ChainArenaTrait<P, Entry<T>> + Drop>(
     alloc: Global,
-    lists: &LinkedLists<P, u32, A>,
+    lists: &LinkedLists<P, T, A>,
     p: P,
 ) -> Result<bool, AllocError> {
     let h = ListHandle { head: p };
@@ -41,9 +35,9 @@ fn is_no_list<P: PtrKey, A: ChainArenaTrait<P, Entry<u32>> + Drop>(
 }
 
 // Returns whether none of these pointers is a handle or an item.
-fn are_stale<P: PtrKey, A: ChainArenaTrait<P, Entry<u32>> + Drop>(
+fn are_stale<P: PtrKey, T: Drop, A: ChainArenaTrait<P, Entry<T>> + Drop>(
     alloc: Global,
-    lists: &LinkedLists<P, u32, A>,
+    lists: &LinkedLists<P, T, A>,
     pointers: &[P],
 ) -> Result<bool, AllocError> {
     for p in pointers {
@@ -55,8 +49,8 @@ fn are_stale<P: PtrKey, A: ChainArenaTrait<P, Entry<u32>> + Drop>(
 }
 
 // Returns the list of an item as the head of its handle.
-fn head_of<P: PtrKey, A: ChainArenaTrait<P, Entry<u32>> + Drop>(
-    lists: &LinkedLists<P, u32, A>,
+fn head_of<P: PtrKey, T: Drop, A: ChainArenaTrait<P, Entry<T>> + Drop>(
+    lists: &LinkedLists<P, T, A>,
     p: P,
 ) -> Option<P> {
     match lists.list_of(p) {
@@ -65,21 +59,20 @@ fn head_of<P: PtrKey, A: ChainArenaTrait<P, Entry<u32>> + Drop>(
     }
 }
 
-// Returns whether an item has its value, its list and its former item.
-fn item_agrees<P: PtrKey, A: ChainArenaTrait<P, Entry<u32>> + Drop>(
-    lists: &LinkedLists<P, u32, A>,
+// Returns whether an item has its list and its former item.
+fn item_agrees<P: PtrKey, T: Drop, A: ChainArenaTrait<P, Entry<T>> + Drop>(
+    lists: &LinkedLists<P, T, A>,
     e: Item<P>,
     former: Option<P>,
 ) -> bool {
     lists.is_item(e.p)
-        && lists.get(e.p).copied() == Some(e.value)
         && are_same(head_of(lists, e.p), Some(e.h))
         && are_same(lists.prev(e.p), former)
 }
 
 // Returns whether a list has the items of the model, forward by `next` and backward by `prev`.
-fn list_agrees<P: PtrKey, A: ChainArenaTrait<P, Entry<u32>> + Drop>(
-    lists: &LinkedLists<P, u32, A>,
+fn list_agrees<P: PtrKey, T: Drop, A: ChainArenaTrait<P, Entry<T>> + Drop>(
+    lists: &LinkedLists<P, T, A>,
     items: &[Item<P>],
     h: ListHandle<P>,
 ) -> bool {
@@ -98,9 +91,9 @@ fn list_agrees<P: PtrKey, A: ChainArenaTrait<P, Entry<u32>> + Drop>(
 }
 
 // Returns whether `head` is a handle and no item, and a walk finds the items of the model.
-fn handle_agrees<P: PtrKey, A: ChainArenaTrait<P, Entry<u32>> + Drop>(
+fn handle_agrees<P: PtrKey, T: Drop, A: ChainArenaTrait<P, Entry<T>> + Drop>(
     alloc: Global,
-    lists: &LinkedLists<P, u32, A>,
+    lists: &LinkedLists<P, T, A>,
     items: &[Item<P>],
     head: P,
 ) -> Result<bool, AllocError> {
@@ -114,10 +107,23 @@ fn handle_agrees<P: PtrKey, A: ChainArenaTrait<P, Entry<u32>> + Drop>(
     }
 }
 
+// Returns whether items have the values of the model.
+fn values_agree<P: PtrKey, T: Drop, A: ChainArenaTrait<P, Entry<T>> + Drop, V: Values<T>>(
+    lists: &LinkedLists<P, T, A>,
+    items: &[Item<P>],
+) -> bool {
+    for e in items {
+        if !has_number::<T, V>(lists.get(e.p), e.value) {
+            return false;
+        }
+    }
+    true
+}
+
 // Returns whether no item is a list, and the sizes are those of the model.
-fn sizes_agree<P: PtrKey, A: ChainArenaTrait<P, Entry<u32>> + Drop>(
+fn sizes_agree<P: PtrKey, T: Drop, A: ChainArenaTrait<P, Entry<T>> + Drop>(
     alloc: Global,
-    lists: &LinkedLists<P, u32, A>,
+    lists: &LinkedLists<P, T, A>,
     model: &Model<P>,
 ) -> Result<bool, AllocError> {
     for e in model.items.as_slice() {
@@ -132,9 +138,9 @@ fn sizes_agree<P: PtrKey, A: ChainArenaTrait<P, Entry<u32>> + Drop>(
 }
 
 // Returns whether the whole state is that of the model.
-pub fn agrees<P: PtrKey, A: ChainArenaTrait<P, Entry<u32>> + Drop>(
+pub fn agrees<P: PtrKey, T: Drop, A: ChainArenaTrait<P, Entry<T>> + Drop, V: Values<T>>(
     alloc: Global,
-    lists: &LinkedLists<P, u32, A>,
+    lists: &LinkedLists<P, T, A>,
     model: &Model<P>,
 ) -> Result<bool, AllocError> {
     lists.all_in_lists();
@@ -143,15 +149,18 @@ pub fn agrees<P: PtrKey, A: ChainArenaTrait<P, Entry<u32>> + Drop>(
             return Ok(false);
         }
     }
-    let stale = are_stale(alloc, lists, model.stale.as_slice())?;
-    Ok(stale && sizes_agree(alloc, lists, model)?)
+    Ok(
+        values_agree::<P, T, A, V>(lists, model.items.as_slice())
+            && are_stale(alloc, lists, model.stale.as_slice())?
+            && sizes_agree(alloc, lists, model)?,
+    )
 }
 
 // Inserts an item.
-fn insert<P: PtrKey, A: ChainArenaTrait<P, Entry<u32>> + Drop>(
-    lists: &mut LinkedLists<P, u32, A>,
+fn insert<P: PtrKey, T: Drop, A: ChainArenaTrait<P, Entry<T>> + Drop>(
+    lists: &mut LinkedLists<P, T, A>,
     goal: Goal<P>,
-    value: u32,
+    value: T,
 ) -> Reply<P> {
     insertion_reply(match goal {
         Goal::Front(head) => lists.push_front(ListHandle { head }, value),
@@ -162,8 +171,8 @@ fn insert<P: PtrKey, A: ChainArenaTrait<P, Entry<u32>> + Drop>(
 }
 
 // Moves an item. No call moves one before another.
-fn move_one<P: PtrKey, A: ChainArenaTrait<P, Entry<u32>> + Drop>(
-    lists: &mut LinkedLists<P, u32, A>,
+fn move_one<P: PtrKey, T: Drop, A: ChainArenaTrait<P, Entry<T>> + Drop>(
+    lists: &mut LinkedLists<P, T, A>,
     p: P,
     goal: Goal<P>,
 ) -> Reply<P> {
@@ -176,8 +185,8 @@ fn move_one<P: PtrKey, A: ChainArenaTrait<P, Entry<u32>> + Drop>(
 }
 
 // Moves a range, if it is one without its goal.
-fn move_range<P: PtrKey, A: ChainArenaTrait<P, Entry<u32>> + Drop>(
-    lists: &mut LinkedLists<P, u32, A>,
+fn move_range<P: PtrKey, T: Drop, A: ChainArenaTrait<P, Entry<T>> + Drop>(
+    lists: &mut LinkedLists<P, T, A>,
     (first, last): (P, P),
     goal: Goal<P>,
 ) -> Reply<P> {
@@ -194,8 +203,8 @@ fn move_range<P: PtrKey, A: ChainArenaTrait<P, Entry<u32>> + Drop>(
 }
 
 // Reserves capacity, and returns for how many of `n` links there is.
-fn reserve<P: PtrKey, A: ChainArenaTrait<P, Entry<u32>> + Drop>(
-    lists: &mut LinkedLists<P, u32, A>,
+fn reserve<P: PtrKey, T: Drop, A: ChainArenaTrait<P, Entry<T>> + Drop>(
+    lists: &mut LinkedLists<P, T, A>,
     n: usize,
 ) -> Reply<P> {
     match lists.reserve(n) {
@@ -205,8 +214,8 @@ fn reserve<P: PtrKey, A: ChainArenaTrait<P, Entry<u32>> + Drop>(
 }
 
 // Makes a call that adds or removes a list.
-fn change_lists<P: PtrKey, A: ChainArenaTrait<P, Entry<u32>> + Drop>(
-    lists: &mut LinkedLists<P, u32, A>,
+fn change_lists<P: PtrKey, T: Drop, A: ChainArenaTrait<P, Entry<T>> + Drop>(
+    lists: &mut LinkedLists<P, T, A>,
     call: Call<P>,
 ) -> Reply<P> {
     match call {
@@ -220,30 +229,32 @@ fn change_lists<P: PtrKey, A: ChainArenaTrait<P, Entry<u32>> + Drop>(
 }
 
 // Makes a call that changes values or lists.
-fn change<P: PtrKey, A: ChainArenaTrait<P, Entry<u32>> + Drop>(
-    lists: &mut LinkedLists<P, u32, A>,
+fn change<P: PtrKey, T: Drop, A: ChainArenaTrait<P, Entry<T>> + Drop, V: Values<T>>(
+    lists: &mut LinkedLists<P, T, A>,
     call: Call<P>,
 ) -> Reply<P> {
     match call {
-        Call::Replace(p, value) => value_reply(lists.replace(p, value)),
-        Call::Write(p, value) => value_reply(overwrite(lists.get_mut(p), value)),
-        Call::Remove(p) => value_reply(lists.remove(p).allow()),
+        Call::Replace(p, value) => {
+            value_reply(number_in::<T, V>(lists.replace(p, V::value_of(value))))
+        }
+        Call::Write(p, value) => value_reply(write_in::<T, V>(lists.get_mut(p), value)),
+        Call::Remove(p) => value_reply(number_in::<T, V>(lists.remove(p).allow())),
         Call::Join(h, k) => done_reply(lists.join(ListHandle { head: h }, ListHandle { head: k })),
         _ => change_lists(lists, call),
     }
 }
 
 // Makes a call.
-fn make_call<P: PtrKey, A: ChainArenaTrait<P, Entry<u32>> + Drop>(
-    lists: &mut LinkedLists<P, u32, A>,
+fn make_call<P: PtrKey, T: Drop, A: ChainArenaTrait<P, Entry<T>> + Drop, V: Values<T>>(
+    lists: &mut LinkedLists<P, T, A>,
     call: Call<P>,
 ) -> Reply<P> {
     match call {
-        Call::Insert(goal, value) => insert(lists, goal, value),
+        Call::Insert(goal, value) => insert(lists, goal, V::value_of(value)),
         Call::Move(p, goal) => move_one(lists, p, goal),
         Call::MoveRange(range, goal) => move_range(lists, range, goal),
         Call::Reserve(n) => reserve(lists, n),
-        _ => change(lists, call),
+        _ => change::<P, T, A, V>(lists, call),
     }
 }
 
@@ -283,36 +294,36 @@ fn random_call<P: PtrKey>(model: &Model<P>, seed: &mut u32) -> Call<P> {
 
 // Makes a call in both, again if it is refused memory, which changes nothing. Returns whether they
 // agree.
-fn step<P: PtrKey, A: ChainArenaTrait<P, Entry<u32>> + Drop>(
+fn step<P: PtrKey, T: Drop, A: ChainArenaTrait<P, Entry<T>> + Drop, V: Values<T>>(
     alloc: Global,
-    lists: &mut LinkedLists<P, u32, A>,
+    lists: &mut LinkedLists<P, T, A>,
     model: &mut Model<P>,
     call: Call<P>,
 ) -> Result<bool, AllocError> {
     let capacity = lists.capacity();
-    let mut reply = make_call(lists, call);
+    let mut reply = make_call::<P, T, A, V>(lists, call);
     if is_refused_memory(reply) {
-        if lists.capacity() != capacity || !agrees(alloc, &*lists, &*model)? {
+        if lists.capacity() != capacity || !agrees::<P, T, A, V>(alloc, &*lists, &*model)? {
             return Ok(false);
         }
         model.refused |= bit_of(call);
-        reply = make_call(lists, call);
+        reply = make_call::<P, T, A, V>(lists, call);
     }
-    Ok(is_reply(alloc, model, call, reply)? && agrees(alloc, &*lists, &*model)?)
+    Ok(is_reply(model, call, reply)? && agrees::<P, T, A, V>(alloc, &*lists, &*model)?)
 }
 
 // Makes random calls in both, and returns the number of the first after which they differ, from 1
 // on, or 0.
-pub fn first_difference<P: PtrKey, A: ChainArenaTrait<P, Entry<u32>> + Drop>(
+pub fn first_difference<P: PtrKey, T: Drop, A: ChainArenaTrait<P, Entry<T>> + Drop, V: Values<T>>(
     alloc: Global,
-    lists: &mut LinkedLists<P, u32, A>,
+    lists: &mut LinkedLists<P, T, A>,
     model: &mut Model<P>,
     mut seed: u32,
     calls: u32,
 ) -> Result<u32, AllocError> {
     for n in 0..calls {
         let call = random_call(&*model, &mut seed);
-        if !step(alloc, lists, model, call)? {
+        if !step::<P, T, A, V>(alloc, lists, model, call)? {
             return Ok(n + 1);
         }
     }
@@ -320,9 +331,9 @@ pub fn first_difference<P: PtrKey, A: ChainArenaTrait<P, Entry<u32>> + Drop>(
 }
 
 // Takes the arena out, and puts it back. Returns whether the lists are empty in between.
-fn is_arena_replaced<P: PtrKey, A: ChainArenaTrait<P, Entry<u32>> + Drop>(
+fn is_arena_replaced<P: PtrKey, T: Drop, A: ChainArenaTrait<P, Entry<T>> + Drop>(
     alloc: Global,
-    lists: &mut LinkedLists<P, u32, A>,
+    lists: &mut LinkedLists<P, T, A>,
 ) -> bool {
     let links = lists.len();
     let arena = lists.replace_arena(A::new(alloc));
@@ -331,46 +342,35 @@ fn is_arena_replaced<P: PtrKey, A: ChainArenaTrait<P, Entry<u32>> + Drop>(
     empty
 }
 
-// Makes random calls on new lists, and adds the bits of those that were refused memory. Returns the
-// first difference, and whether the arena is replaced.
-fn outcome_of<P: PtrKey, A: ChainArenaTrait<P, Entry<u32>> + Drop>(
+// Makes random calls on new lists, replaces their arena, and adds the bits of the calls that were
+// refused memory. Returns the number of the first call after which the lists differ, or 0.
+fn first_difference_of<P: PtrKey, T: Drop, A: ChainArenaTrait<P, Entry<T>> + Drop, V: Values<T>>(
     alloc: Global,
     seed: u32,
     refused: &mut u32,
-) -> Result<(u32, bool), AllocError> {
-    let mut lists = LinkedLists::<P, u32, A>::new(alloc);
+) -> Result<u32, AllocError> {
+    let mut lists = LinkedLists::<P, T, A>::new(alloc);
     let mut model: Model<P> = new_model(alloc);
-    let difference = first_difference(alloc, &mut lists, &mut model, seed, 250)?;
+    let difference = first_difference::<P, T, A, V>(alloc, &mut lists, &mut model, seed, 250)?;
     *refused |= model.refused;
-    let replaced = is_arena_replaced(alloc, &mut lists);
-    Ok((difference, replaced && agrees(alloc, &lists, &model)?))
+    if is_arena_replaced(alloc, &mut lists) && agrees::<P, T, A, V>(alloc, &lists, &model)? {
+        Ok(difference)
+    } else {
+        Ok(251)
+    }
 }
 
-fn check<P: PtrKey, A: ChainArenaTrait<P, Entry<u32>> + Drop>(
-    rt: &impl Abort,
+// Returns the bits of the calls that were refused memory, or a seed and a call after which the lists
+// differ from the model.
+pub fn outcome<P: PtrKey, T: Drop, A: ChainArenaTrait<P, Entry<T>> + Drop, V: Values<T>>(
     alloc: Global,
-    wanted: u32,
-) {
+) -> u32 {
     let mut refused = 0;
     for seed in 0..16 {
-        let outcome = outcome_of::<P, A>(alloc, seed, &mut refused);
-        assert!(rt; outcome == Ok((0, true)), "seed {seed}: {outcome:?}");
+        match first_difference_of::<P, T, A, V>(alloc, seed, &mut refused) {
+            Ok(0) => {}
+            difference => return failure_at(seed, difference),
+        }
     }
-    assert!(rt; refused == wanted, "refused: {refused}");
-}
-
-// Only this body names the arena, since naming it is the cost.
-fn over_stack<S: SlotStack<Item = Slot>>(rt: &impl Abort, alloc: Global, wanted: u32) {
-    check::<ToolPtr, ChainArena<ToolPtr, Entry<u32>, S>>(rt, alloc, wanted);
-}
-
-#[test]
-fn random_calls_agree_with_a_model(rt: HostRuntime) {
-    over_stack::<HeapStack<Slot>>(&rt, rt.alloc(), 0);
-}
-
-// Each of the seven calls that may grow the arena is refused memory.
-#[test]
-fn refused_calls_change_nothing(rt: HostRuntime) {
-    over_stack::<FailingStack<HeapStack<Slot>>>(&rt, rt.alloc(), 0b111_1111);
+    refused
 }

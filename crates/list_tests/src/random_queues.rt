@@ -3,38 +3,31 @@
 
 use crate::model::{
     Call, Goal, Item, Model, Reply, are_items_of, are_same, bit_of, count_reply, done_reply,
-    first_of, growth_error, insertion_reply, is_refused_memory, is_reply, new_model, pointer_of,
-    pointer_reply, random, random_handle, random_item, value_reply,
+    failure_at, first_of, growth_error, insertion_reply, is_refused_memory, is_reply, new_model,
+    pointer_of, pointer_reply, random, random_handle, random_item, value_reply,
 };
-use arena_base::ArenaSlot;
-use arena_ptr::{HeapStack, PtrKey, SlotStack, ToolPtr};
-use chain_arena::{ChainArena, LinkNoGen};
+use crate::values::{Values, has_number, number_in};
+use arena_ptr::PtrKey;
 use chain_traits::ChainArenaTrait;
 use run_queues::{Entry, Queue, RunQueues};
 use std::alloc::{AllocError, Global};
-use std::process::Abort;
-use test_types::FailingStack;
 
-type Slot = ArenaSlot<ToolPtr, LinkNoGen<ToolPtr, Entry<u32>>>;
-
-// Returns whether a task has its value and its queue, and is no queue.
-fn task_agrees<P: PtrKey, A: ChainArenaTrait<P, Entry<u32>> + Drop>(
-    queues: &RunQueues<P, u32, A>,
+// Returns whether a task has its queue, and is no queue.
+fn task_agrees<P: PtrKey, T: Drop, A: ChainArenaTrait<P, Entry<T>> + Drop>(
+    queues: &RunQueues<P, T, A>,
     e: Item<P>,
 ) -> bool {
     let of = match queues.queue_of(e.p) {
         Some(queue) => queue.head.is_same(e.h),
         None => false,
     };
-    of && queues.is_task(e.p)
-        && queues.get(e.p).copied() == Some(e.value)
-        && !queues.is_queue(Queue { head: e.p })
+    of && queues.is_task(e.p) && !queues.is_queue(Queue { head: e.p })
 }
 
 // Returns whether a queue has the tasks of the model, in order, and is no task.
-fn queue_agrees<P: PtrKey, A: ChainArenaTrait<P, Entry<u32>> + Drop>(
+fn queue_agrees<P: PtrKey, T: Drop, A: ChainArenaTrait<P, Entry<T>> + Drop>(
     alloc: Global,
-    queues: &RunQueues<P, u32, A>,
+    queues: &RunQueues<P, T, A>,
     items: &[Item<P>],
     head: P,
 ) -> Result<bool, AllocError> {
@@ -50,8 +43,8 @@ fn queue_agrees<P: PtrKey, A: ChainArenaTrait<P, Entry<u32>> + Drop>(
 }
 
 // Returns whether none of these pointers is a queue or a task.
-fn are_stale<P: PtrKey, A: ChainArenaTrait<P, Entry<u32>> + Drop>(
-    queues: &RunQueues<P, u32, A>,
+fn are_stale<P: PtrKey, T: Drop, A: ChainArenaTrait<P, Entry<T>> + Drop>(
+    queues: &RunQueues<P, T, A>,
     pointers: &[P],
 ) -> bool {
     for p in pointers {
@@ -63,8 +56,8 @@ fn are_stale<P: PtrKey, A: ChainArenaTrait<P, Entry<u32>> + Drop>(
 }
 
 // Returns whether the tasks and the sizes are those of the model.
-fn tasks_agree<P: PtrKey, A: ChainArenaTrait<P, Entry<u32>> + Drop>(
-    queues: &RunQueues<P, u32, A>,
+fn tasks_agree<P: PtrKey, T: Drop, A: ChainArenaTrait<P, Entry<T>> + Drop>(
+    queues: &RunQueues<P, T, A>,
     model: &Model<P>,
 ) -> bool {
     for e in model.items.as_slice() {
@@ -78,10 +71,23 @@ fn tasks_agree<P: PtrKey, A: ChainArenaTrait<P, Entry<u32>> + Drop>(
     empty && within && queues.len() == links
 }
 
+// Returns whether tasks have the values of the model.
+fn values_agree<P: PtrKey, T: Drop, A: ChainArenaTrait<P, Entry<T>> + Drop, V: Values<T>>(
+    queues: &RunQueues<P, T, A>,
+    items: &[Item<P>],
+) -> bool {
+    for e in items {
+        if !has_number::<T, V>(queues.get(e.p), e.value) {
+            return false;
+        }
+    }
+    true
+}
+
 // Returns whether the whole state is that of the model.
-fn agrees<P: PtrKey, A: ChainArenaTrait<P, Entry<u32>> + Drop>(
+fn agrees<P: PtrKey, T: Drop, A: ChainArenaTrait<P, Entry<T>> + Drop, V: Values<T>>(
     alloc: Global,
-    queues: &RunQueues<P, u32, A>,
+    queues: &RunQueues<P, T, A>,
     model: &Model<P>,
 ) -> Result<bool, AllocError> {
     queues.each_in_one_queue();
@@ -90,12 +96,13 @@ fn agrees<P: PtrKey, A: ChainArenaTrait<P, Entry<u32>> + Drop>(
             return Ok(false);
         }
     }
-    Ok(tasks_agree(queues, model) && are_stale(queues, model.stale.as_slice()))
+    let values = values_agree::<P, T, A, V>(queues, model.items.as_slice());
+    Ok(values && tasks_agree(queues, model) && are_stale(queues, model.stale.as_slice()))
 }
 
 // Gives a turn, or wakes the first task of another queue.
-fn wake_one<P: PtrKey, A: ChainArenaTrait<P, Entry<u32>> + Drop>(
-    queues: &mut RunQueues<P, u32, A>,
+fn wake_one<P: PtrKey, T: Drop, A: ChainArenaTrait<P, Entry<T>> + Drop>(
+    queues: &mut RunQueues<P, T, A>,
     h: P,
     k: P,
 ) -> Reply<P> {
@@ -108,8 +115,8 @@ fn wake_one<P: PtrKey, A: ChainArenaTrait<P, Entry<u32>> + Drop>(
 }
 
 // Reserves capacity, and returns for how many of `n` links there is.
-fn reserve<P: PtrKey, A: ChainArenaTrait<P, Entry<u32>> + Drop>(
-    queues: &mut RunQueues<P, u32, A>,
+fn reserve<P: PtrKey, T: Drop, A: ChainArenaTrait<P, Entry<T>> + Drop>(
+    queues: &mut RunQueues<P, T, A>,
     n: usize,
 ) -> Reply<P> {
     match queues.reserve(n) {
@@ -119,13 +126,15 @@ fn reserve<P: PtrKey, A: ChainArenaTrait<P, Entry<u32>> + Drop>(
 }
 
 // Makes a call that changes values or queues.
-fn change<P: PtrKey, A: ChainArenaTrait<P, Entry<u32>> + Drop>(
-    queues: &mut RunQueues<P, u32, A>,
+fn change<P: PtrKey, T: Drop, A: ChainArenaTrait<P, Entry<T>> + Drop, V: Values<T>>(
+    queues: &mut RunQueues<P, T, A>,
     call: Call<P>,
 ) -> Reply<P> {
     match call {
-        Call::Replace(p, value) => value_reply(queues.replace(p, value)),
-        Call::Remove(p) => value_reply(queues.cancel(p).allow()),
+        Call::Replace(p, value) => {
+            value_reply(number_in::<T, V>(queues.replace(p, V::value_of(value))))
+        }
+        Call::Remove(p) => value_reply(number_in::<T, V>(queues.cancel(p).allow())),
         Call::RemoveList(head) => count_reply(queues.remove_queue(Queue { head }).allow()),
         _ => match queues.new_queue() {
             Ok(queue) => Reply::Pointer(queue.head),
@@ -135,14 +144,14 @@ fn change<P: PtrKey, A: ChainArenaTrait<P, Entry<u32>> + Drop>(
 }
 
 // Makes a call. `Join` names the queue before the list whose tasks wake.
-fn make_call<P: PtrKey, A: ChainArenaTrait<P, Entry<u32>> + Drop>(
-    queues: &mut RunQueues<P, u32, A>,
+fn make_call<P: PtrKey, T: Drop, A: ChainArenaTrait<P, Entry<T>> + Drop, V: Values<T>>(
+    queues: &mut RunQueues<P, T, A>,
     call: Call<P>,
 ) -> Reply<P> {
     match call {
         Call::Insert(goal, value) => {
             let head = pointer_of(goal);
-            insertion_reply(queues.spawn(Queue { head }, value))
+            insertion_reply(queues.spawn(Queue { head }, V::value_of(value)))
         }
         Call::Move(p, goal) => {
             let head = pointer_of(goal);
@@ -151,7 +160,7 @@ fn make_call<P: PtrKey, A: ChainArenaTrait<P, Entry<u32>> + Drop>(
         Call::Join(h, k) => done_reply(queues.wake_all(Queue { head: k }, Queue { head: h })),
         Call::WakeOne(h, k) => wake_one(queues, h, k),
         Call::Reserve(n) => reserve(queues, n),
-        _ => change(queues, call),
+        _ => change::<P, T, A, V>(queues, call),
     }
 }
 
@@ -178,36 +187,36 @@ fn random_call<P: PtrKey>(model: &Model<P>, seed: &mut u32) -> Call<P> {
 
 // Makes a call in both, again if it is refused memory, which changes nothing. Returns whether they
 // agree.
-fn step<P: PtrKey, A: ChainArenaTrait<P, Entry<u32>> + Drop>(
+fn step<P: PtrKey, T: Drop, A: ChainArenaTrait<P, Entry<T>> + Drop, V: Values<T>>(
     alloc: Global,
-    queues: &mut RunQueues<P, u32, A>,
+    queues: &mut RunQueues<P, T, A>,
     model: &mut Model<P>,
     call: Call<P>,
 ) -> Result<bool, AllocError> {
     let capacity = queues.capacity();
-    let mut reply = make_call(queues, call);
+    let mut reply = make_call::<P, T, A, V>(queues, call);
     if is_refused_memory(reply) {
-        if queues.capacity() != capacity || !agrees(alloc, &*queues, &*model)? {
+        if queues.capacity() != capacity || !agrees::<P, T, A, V>(alloc, &*queues, &*model)? {
             return Ok(false);
         }
         model.refused |= bit_of(call);
-        reply = make_call(queues, call);
+        reply = make_call::<P, T, A, V>(queues, call);
     }
-    Ok(is_reply(alloc, model, call, reply)? && agrees(alloc, &*queues, &*model)?)
+    Ok(is_reply(model, call, reply)? && agrees::<P, T, A, V>(alloc, &*queues, &*model)?)
 }
 
 // Makes random calls on new queues, and adds the bits of those that were refused memory. Returns the
 // number of the first after which they differ from the model, from 1 on, or 0.
-fn outcome_of<P: PtrKey, A: ChainArenaTrait<P, Entry<u32>> + Drop>(
+fn first_difference_of<P: PtrKey, T: Drop, A: ChainArenaTrait<P, Entry<T>> + Drop, V: Values<T>>(
     alloc: Global,
     mut seed: u32,
     refused: &mut u32,
 ) -> Result<u32, AllocError> {
-    let mut queues = RunQueues::<P, u32, A>::new(alloc);
+    let mut queues = RunQueues::<P, T, A>::new(alloc);
     let mut model: Model<P> = new_model(alloc);
     for n in 0..250 {
         let call = random_call(&model, &mut seed);
-        if !step(alloc, &mut queues, &mut model, call)? {
+        if !step::<P, T, A, V>(alloc, &mut queues, &mut model, call)? {
             return Ok(n + 1);
         }
     }
@@ -215,31 +224,17 @@ fn outcome_of<P: PtrKey, A: ChainArenaTrait<P, Entry<u32>> + Drop>(
     Ok(0)
 }
 
-fn check<P: PtrKey, A: ChainArenaTrait<P, Entry<u32>> + Drop>(
-    rt: &impl Abort,
+// Returns the bits of the calls that were refused memory, or a seed and a call after which the queues
+// differ from the model.
+pub fn outcome<P: PtrKey, T: Drop, A: ChainArenaTrait<P, Entry<T>> + Drop, V: Values<T>>(
     alloc: Global,
-    wanted: u32,
-) {
+) -> u32 {
     let mut refused = 0;
     for seed in 0..16 {
-        let outcome = outcome_of::<P, A>(alloc, seed, &mut refused);
-        assert!(rt; outcome == Ok(0), "seed {seed}: {outcome:?}");
+        match first_difference_of::<P, T, A, V>(alloc, seed, &mut refused) {
+            Ok(0) => {}
+            difference => return failure_at(seed, difference),
+        }
     }
-    assert!(rt; refused == wanted, "refused: {refused}");
-}
-
-// Only this body names the arena, since naming it is the cost.
-fn over_stack<S: SlotStack<Item = Slot>>(rt: &impl Abort, alloc: Global, wanted: u32) {
-    check::<ToolPtr, ChainArena<ToolPtr, Entry<u32>, S>>(rt, alloc, wanted);
-}
-
-#[test]
-fn random_calls_agree_with_a_model(rt: HostRuntime) {
-    over_stack::<HeapStack<Slot>>(&rt, rt.alloc(), 0);
-}
-
-// `new_queue`, `reserve` and `spawn` are refused memory.
-#[test]
-fn refused_calls_change_nothing(rt: HostRuntime) {
-    over_stack::<FailingStack<HeapStack<Slot>>>(&rt, rt.alloc(), 0b111);
+    refused
 }

@@ -2,6 +2,7 @@
 
 use crate::model::{Item, Model, new_model};
 use crate::random_lists::{agrees, first_difference};
+use crate::values::{Numbers, Values};
 use arena_base::ArenaSlot;
 use arena_ptr::{HeapStack, PtrKey, SlotStack, ToolPtr};
 use chain_arena::{ChainArena, LinkNoGen};
@@ -9,6 +10,8 @@ use chain_renumbering::{RenumberChainArenaTrait, Renumbering};
 use documents::{Document, Documents, Entry, moved_document, renumber};
 use std::alloc::{AllocError, Global};
 use std::process::Abort;
+
+type Arena<S> = ChainArena<ToolPtr, Entry<u32>, S>;
 
 type Slot = ArenaSlot<ToolPtr, LinkNoGen<ToolPtr, Entry<u32>>>;
 
@@ -76,36 +79,42 @@ fn model_after<P: PtrKey>(
 
 // Makes random calls on new documents, renumbers them, and makes further calls. Returns whether they
 // agree with the model.
-fn renumbering_holds<P: PtrKey, A: RenumberChainArenaTrait<P, Entry<u32>> + Drop>(
-    alloc: Global,
-    seed: u32,
-) -> Result<bool, AllocError> {
-    let mut documents = Documents::<P, u32, A>::new(alloc);
+fn renumbering_holds<
+    P: PtrKey,
+    T: Drop,
+    A: RenumberChainArenaTrait<P, Entry<T>> + Drop,
+    V: Values<T>,
+>(alloc: Global, seed: u32) -> Result<bool, AllocError> {
+    let mut documents = Documents::<P, T, A>::new(alloc);
     let mut model = new_model(alloc);
     let calls = seed.wrapping_mul(50);
-    let made = first_difference(alloc, &mut documents, &mut model, seed, calls)? == 0;
+    let made = first_difference::<P, T, A, V>(alloc, &mut documents, &mut model, seed, calls)? == 0;
     let moved = renumber(&mut documents, alloc)?;
     let Some(mut after) = model_after(alloc, &moved, &model)? else {
         return Ok(false);
     };
-    let same = agrees(alloc, &documents, &after)?;
-    let further = first_difference(alloc, &mut documents, &mut after, seed, 50)? == 0;
+    let same = agrees::<P, T, A, V>(alloc, &documents, &after)?;
+    let further = first_difference::<P, T, A, V>(alloc, &mut documents, &mut after, seed, 50)? == 0;
     Ok(made && same && further)
 }
 
-fn check<P: PtrKey, A: RenumberChainArenaTrait<P, Entry<u32>> + Drop>(
-    rt: &impl Abort,
+// Returns the first seed for which that does not hold, from 1 on, or 0.
+fn outcome<P: PtrKey, T: Drop, A: RenumberChainArenaTrait<P, Entry<T>> + Drop, V: Values<T>>(
     alloc: Global,
-) {
+) -> u32 {
     for seed in 0..8 {
-        let holds = renumbering_holds::<P, A>(alloc, seed);
-        assert!(rt; holds == Ok(true), "seed {seed}: {holds:?}");
+        match renumbering_holds::<P, T, A, V>(alloc, seed) {
+            Ok(true) => {}
+            _ => return seed + 1,
+        }
     }
+    0
 }
 
 // Only this body names the arena, since naming it is the cost.
 fn over_stack<S: SlotStack<Item = Slot>>(rt: &impl Abort, alloc: Global) {
-    check::<ToolPtr, ChainArena<ToolPtr, Entry<u32>, S>>(rt, alloc);
+    let outcome = outcome::<ToolPtr, u32, Arena<S>, Numbers>(alloc);
+    assert!(rt; outcome == 0, "outcome {outcome}");
 }
 
 #[test]
