@@ -1,5 +1,8 @@
 //! A scheduler of named tasks.
 
+ghost use Rattle.std.specs.Prelude.{◌≡◌};
+ghost use Rattle.schedule_commands.specs.declared.scheduler.CommandError.TheVariants.{Refused, Memory};
+
 use crate::refusal::Refusal;
 use crate::turns::next_of_first;
 use arena_ptr::PtrKey;
@@ -15,18 +18,24 @@ pub enum CommandError {
 }
 
 impl From<AllocError> for CommandError {
+    ghost from_gives = { λ _ e. e ≡ Memory };
+
     fn from(_error: AllocError) -> CommandError {
         CommandError::Memory
     }
 }
 
 impl<T: Drop> From<AllocFailed<T>> for CommandError {
+    ghost from_gives = { λ _ e. e ≡ Memory };
+
     fn from(_error: AllocFailed<T>) -> CommandError {
         CommandError::Memory
     }
 }
 
 impl From<Refusal> for CommandError {
+    ghost from_gives = { λ why e. e ≡ Refused why };
+
     fn from(refusal: Refusal) -> CommandError {
         CommandError::Refused(refusal)
     }
