@@ -3,7 +3,7 @@
 use line_programs::MAX_LINE;
 use std::str;
 
-#[derive(Debug, Clone, Copy, PartialEq, Eq)]
+#[derive(Clone, Copy, PartialEq, Eq)]
 pub enum Line<'a> {
     Blank,
     Bad,

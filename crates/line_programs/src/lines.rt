@@ -1,5 +1,8 @@
 //! Lines of a reader.
 
+ghost use Rattle.std.specs.Prelude.{◌≡◌};
+ghost use Rattle.line_programs.specs.declared.lines.RunError.TheVariants.{Memory};
+
 use std::alloc::{AllocError, AllocFailed, Global};
 use std::io::{ErrorKind, Read, Write};
 
@@ -16,12 +19,16 @@ pub enum RunError {
 }
 
 impl From<AllocError> for RunError {
+    ghost from_gives = { λ _ e. e ≡ Memory };
+
     fn from(_error: AllocError) -> RunError {
         RunError::Memory
     }
 }
 
 impl<T: Drop> From<AllocFailed<T>> for RunError {
+    ghost from_gives = { λ _ e. e ≡ Memory };
+
     fn from(_error: AllocFailed<T>) -> RunError {
         RunError::Memory
     }

@@ -8,7 +8,7 @@ use line_programs::MAX_LINE;
 use std::str;
 
 /// A command and its words, in order.
-#[derive(Debug, Clone, Copy, PartialEq, Eq)]
+#[derive(Clone, Copy, PartialEq, Eq)]
 pub enum Line<'a> {
     Blank,
     Document(&'a str),
@@ -30,7 +30,7 @@ pub enum Line<'a> {
 }
 
 /// Where a range is moved.
-#[derive(Debug, Clone, Copy, PartialEq, Eq)]
+#[derive(Clone, Copy, PartialEq, Eq)]
 pub enum Place<'a> {
     After(usize),
     First(&'a str),

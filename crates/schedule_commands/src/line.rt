@@ -4,7 +4,7 @@ use crate::refusal::Refusal;
 use line_programs::MAX_LINE;
 use std::str;
 
-#[derive(Debug, Clone, Copy, PartialEq, Eq)]
+#[derive(Clone, Copy, PartialEq, Eq)]
 pub enum Line<'a> {
     Blank,
     /// `spawn NAME PRIORITY`
